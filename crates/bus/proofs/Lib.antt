@@ -1,0 +1,4 @@
+-- The laws about choices and bus programs.
+pub mod Choices
+pub mod Run
+pub mod Secret

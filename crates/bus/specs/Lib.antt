@@ -1,0 +1,5 @@
+-- The definitions that the contracts of this crate, and of all that touch memory, cite.
+pub mod Choice
+pub mod Bits
+pub mod Bus
+pub mod Secrecy

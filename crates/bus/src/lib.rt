@@ -1,0 +1,1 @@
+// Bus programs: this crate holds their definitions and laws, and no code.

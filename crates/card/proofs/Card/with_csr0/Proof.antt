@@ -1,0 +1,11 @@
+use Rattle.card.specs.State.{withCsr0, withEvents}
+use mathlib.Core.Path.{refl}
+use Rattle.card.proofs.Card.with_csr0.Statement.{statement}
+use Rattle.card.proofs.Card.with_csr0.Tie as tie
+
+returns : tie.Need-returns
+unfolding withCsr0 withEvents
+returns c = refl
+
+pub with-csr0-spec : {M : Type 1} → statement M
+with-csr0-spec = tie.close (tie.spec returns)

@@ -1,0 +1,10 @@
+-- The definitions that the contracts of this crate cite, in the order of document 01.
+pub mod State
+pub mod Sound
+pub mod Answers
+pub mod Refusals
+pub mod Registers
+pub mod Initialization
+pub mod Acts
+pub mod Arrival
+pub mod Turning

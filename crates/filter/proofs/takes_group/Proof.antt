@@ -1,0 +1,30 @@
+use Rattle.filter.specs.Filter.{group}
+use borrow.Author.Needs.{needs}
+use Rattle.filter.proofs.takes_group.Statement.{statement}
+use Rattle.filter.proofs.takes_group.Tie as tie
+
+is-broadcast-requires : tie.Need-is-broadcast-requires
+is-broadcast-requires c κs = search needs
+
+slice-aggregate-hash-of : tie.Need-slice-aggregate-hash-of
+slice-aggregate-hash-of c = search needs
+
+hash-of-requires : tie.Need-hash-of-requires
+hash-of-requires c κs = search needs
+
+is-hashed-requires : tie.Need-is-hashed-requires
+is-hashed-requires c κs = search needs
+
+returns : tie.Need-returns
+unfolding group
+returns c = cc
+
+pub takes-group-spec : {M : Type 1} → statement M
+takes-group-spec =
+    tie.close
+    (tie.spec
+    is-broadcast-requires
+    slice-aggregate-hash-of
+    hash-of-requires
+    is-hashed-requires
+    returns)

@@ -1,0 +1,15 @@
+use Rattle.bus.specs.Bits.{put}
+use borrow.Author.Needs.{needs}
+use Rattle.registers.proofs.weigh.Statement.{statement}
+use Rattle.registers.proofs.weigh.Tie as tie
+
+returns : tie.Need-returns
+unfolding put
+returns c = search needs
+
+returns-2 : tie.Need-returns-2
+unfolding put
+returns-2 c = search needs
+
+pub weigh-spec : {M : Type 1} → statement M
+weigh-spec = tie.close (tie.spec returns returns-2)

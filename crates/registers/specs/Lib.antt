@@ -1,0 +1,5 @@
+-- The definitions that the contracts of this crate cite.
+pub mod Bits
+pub mod Csr0
+pub mod Writing
+pub mod Map

@@ -1,0 +1,4 @@
+-- The definitions that the contracts of this crate cite.
+pub mod Ring
+pub mod Loading
+pub mod Descriptor

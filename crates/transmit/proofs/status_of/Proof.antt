@@ -1,0 +1,52 @@
+-- `transmit::status_of` meets its contract: the four bits come to the sum.
+use native.Mathlib.Omega.{arith}
+use Rattle.transmit.specs.Report.{reported}
+use borrow.Author.Needs.{needs}
+use Rattle.transmit.proofs.status_of.Statement.{statement}
+use Rattle.transmit.proofs.status_of.Tie as tie
+
+put-bit-requires : tie.Need-put-bit-requires
+put-bit-requires c κs = search needs
+
+put-bit-requires-2 : tie.Need-put-bit-requires-2
+put-bit-requires-2 c κs = search needs
+
+hands-out-requires : tie.Need-hands-out-requires
+hands-out-requires c κs = search needs
+
+put-bit-requires-3 : tie.Need-put-bit-requires-3
+put-bit-requires-3 c κs = search needs
+
+put-bit-requires-4 : tie.Need-put-bit-requires-4
+put-bit-requires-4 c κs = search needs
+
+add-result : tie.Need-add-result
+add-result c = search needs
+
+add-result-2 : tie.Need-add-result-2
+add-result-2 c = search needs
+
+add-result-3 : tie.Need-add-result-3
+add-result-3 c = search needs
+
+cast-result : tie.Need-cast-result
+cast-result c = search needs
+
+returns : tie.Need-returns
+unfolding reported
+returns c = (cc, omega arith)
+
+pub status-of-spec : {M : Type 1} → statement M
+status-of-spec =
+    tie.close
+    (tie.spec
+    put-bit-requires
+    put-bit-requires-2
+    hands-out-requires
+    put-bit-requires-3
+    put-bit-requires-4
+    add-result
+    add-result-2
+    add-result-3
+    cast-result
+    returns)

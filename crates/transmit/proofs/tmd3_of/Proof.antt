@@ -1,0 +1,35 @@
+-- `transmit::tmd3_of` meets its contract: the three bits come to the sum.
+use Rattle.transmit.specs.Report.{reportedTmd3}
+use borrow.Author.Needs.{needs}
+use Rattle.transmit.proofs.tmd3_of.Statement.{statement}
+use Rattle.transmit.proofs.tmd3_of.Tie as tie
+
+put-bit-requires : tie.Need-put-bit-requires
+put-bit-requires c κs = search needs
+
+put-bit-requires-2 : tie.Need-put-bit-requires-2
+put-bit-requires-2 c κs = search needs
+
+put-bit-requires-3 : tie.Need-put-bit-requires-3
+put-bit-requires-3 c κs = search needs
+
+add-result : tie.Need-add-result
+add-result c = search needs
+
+add-result-2 : tie.Need-add-result-2
+add-result-2 c = search needs
+
+returns : tie.Need-returns
+unfolding reportedTmd3
+returns c = cc
+
+pub tmd3-of-spec : {M : Type 1} → statement M
+tmd3-of-spec =
+    tie.close
+    (tie.spec
+    put-bit-requires
+    put-bit-requires-2
+    put-bit-requires-3
+    add-result
+    add-result-2
+    returns)
