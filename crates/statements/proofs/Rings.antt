@@ -1,0 +1,47 @@
+-- Rings that an initialization loads are sound, and stay so as their slots move on.
+use Prim.Native.Nat.{ℕ, zero, suc, _+_, _*_, _/_, _%_, _^_, _<_}
+use native.Mathlib.Omega.{arith}
+use mathlib.Core.Path.{_≡_, refl}
+use mathlib.Core.Bool.{true, _&&_, and-eq-true-iff}
+use lib.Dec.{ltb}
+use borrow.Author.Tests.{ltb-true, lt-ltb, eq-eqb}
+use Rattle.ring.specs.declared.Slot.{Slot}
+use Rattle.ring.specs.declared.Ring.{Ring}
+use Rattle.ring.specs.Loading.{ringFrom, keptByBase, isLength, loaded}
+
+-- "Slots are 2 to the power of the three bits"
+lengths : (k : ℕ) → k < 8 → (isLength (2 ^ k) && ltb 0 (2 ^ k)) ≡ true
+unfolding isLength
+lengths zero h = refl
+lengths (suc zero) h = refl
+lengths (suc (suc zero)) h = refl
+lengths (suc (suc (suc zero))) h = refl
+lengths (suc (suc (suc (suc zero)))) h = refl
+lengths (suc (suc (suc (suc (suc zero))))) h = refl
+lengths (suc (suc (suc (suc (suc (suc zero)))))) h = refl
+lengths (suc (suc (suc (suc (suc (suc (suc zero))))))) h = refl
+lengths (suc (suc (suc (suc (suc (suc (suc (suc k)))))))) h = absurd (omega arith)
+
+-- a ring from two words is loaded
+pub ring-loaded : (low high : ℕ) → low < 65536 → high < 65536 → loaded (ringFrom low high) ≡ true
+unfolding loaded ringFrom keptByBase
+ring-loaded low high l h =
+    let kept : (low / 8 * 8 + 65536 * (high % 256)) % 0x1000000 / 8 * 8 ≡ low / 8 * 8 + 65536 * (high % 256) = omega arith in
+    and-eq-true-iff (isLength (2 ^ (high / 8192)) && ltb 0 (2 ^ (high / 8192))) _ .1
+    (lengths (high / 8192) (omega arith), eq-eqb _ _ kept)
+
+-- the slot of a loaded ring is in it
+pub slot-within : (r : Ring) → loaded r ≡ true → r .slot .0 < r .length
+unfolding loaded
+slot-within r e =
+    let both = and-eq-true-iff _ _ .0 e in
+    ltb-true _ _ (and-eq-true-iff (isLength (r .length)) _ .0 (both .0) .1)
+
+-- .. and may be any that is
+pub moved : (r : Ring) (i : Slot) → loaded r ≡ true → i .0 < r .length
+    → loaded (record { base = r .base; length = r .length; slot = i }) ≡ true
+unfolding loaded
+moved r i e h =
+    let both = and-eq-true-iff _ _ .0 e in
+    and-eq-true-iff (isLength (r .length) && ltb (i .0) (r .length)) _ .1
+    (and-eq-true-iff (isLength (r .length)) _ .1 (and-eq-true-iff (isLength (r .length)) _ .0 (both .0) .0, lt-ltb _ _ h), both .1)

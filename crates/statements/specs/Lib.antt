@@ -1,0 +1,7 @@
+-- What the statements over all say.
+pub mod Computed
+pub mod Cases
+pub mod Soundly
+pub mod Runs
+pub mod Premise
+pub mod Twice
