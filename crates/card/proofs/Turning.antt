@@ -99,7 +99,7 @@ module _ (c : Card) (n out report : ℕ) (v : Verdict) (h : verdictNumber v ≡ 
   unfolding turnNumber
   slice-long = ltb-false out 4100 (passed 3 _ _ (rest 0 _ _ (rest 8 _ _ none)))
 
-  pub report-known : report ≤ 5
+  report-known : report ≤ 5
   unfolding turnNumber
   report-known = ltb-false 5 report (passed 4 _ _ (rest 3 _ _ (rest 0 _ _ (rest 8 _ _ none))))
 

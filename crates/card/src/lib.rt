@@ -126,8 +126,7 @@ pub fn number(why: Refusal) -> u8
 
 // What a wire report means with DRTY.
 fn meaning(mode: u16, report: u8) -> u8
-    requires { ⌜ report ≤ 5 ⌝ }
-    ensures { λ r. ⌜ (r ≡ meant mode report) × (r ≤ 5) ⌝ }
+    ensures { λ r. ⌜ r ≡ meant mode report ⌝ }
 {
     if (mode / DRTY % 2 == 1) & ((report == 1) | (report == 2)) {
         3
@@ -229,7 +228,7 @@ impl Card {
     }
 
     // Whether the state is sound.
-    fn is_sound(self) -> bool
+    pub fn is_sound(self) -> bool
         ensures { λ r. ⌜ r ≡ sound self ⌝ }
     {
         let csr0 = self.csr0;
@@ -735,7 +734,7 @@ impl Card {
         deferred: bool,
         quiet: bool,
     ) -> Told
-        requires { ⌜ (4100 ≤ length (now out)) × (report ≤ 5) ⌝ }
+        requires { ⌜ 4100 ≤ length (now out) ⌝ }
         ensures { λ r. ⌜ hands (run (takeTurn self (length (now (memory .entry))) report deferred quiet) (now (memory .entry))) (now (out .entry)) ≡ record { reply = told r; memory = now (memory .exit); out = now (out .exit) } ⌝ }
     {
         let ring = self.transmit;
@@ -766,7 +765,7 @@ impl Card {
         deferred: bool,
         quiet: bool,
     ) -> Told
-        requires { ⌜ (4100 ≤ length (now out)) × (report ≤ 5) ⌝ }
+        requires { ⌜ 4100 ≤ length (now out) ⌝ }
         ensures { λ r. ⌜ hands (run (turnIfOn self (length (now (memory .entry))) report deferred quiet) (now (memory .entry))) (now (out .entry)) ≡ record { reply = told r; memory = now (memory .exit); out = now (out .exit) } ⌝ }
     {
         if self.csr0.txon {

@@ -285,7 +285,7 @@ pub fn turn_ring(
     deferred: bool,
     always: bool,
 ) -> Turned
-    requires { ⌜ (4100 ≤ length (now out)) × (report ≤ 5) ⌝ }
+    requires { ⌜ 4100 ≤ length (now out) ⌝ }
     ensures { λ r. ⌜ leaves (run (turn base slots (length (now (memory .entry))) report deferred always slot) (now (memory .entry))) (now (out .entry)) ≡ record { turned = r; memory = now (memory .exit); out = now (out .exit) } ⌝ }
 {
     let start = pass_slots(memory, base, slots, slot);

@@ -1,5 +1,5 @@
 use Rattle.card.specs.Turning.{turning}
-use Rattle.card.proofs.Turning.{handed, slice-long, report-known, report-fits}
+use Rattle.card.proofs.Turning.{handed, slice-long, report-fits}
 use borrow.Author.Needs.{needs}
 use Rattle.card.proofs.Card.turn.Statement.{statement}
 use Rattle.card.proofs.Card.turn.Tie as tie
@@ -20,7 +20,7 @@ cast-turn-allowed : tie.Need-cast-turn-allowed
 cast-turn-allowed c = search report-fits
 
 turn-allowed-requires : tie.Need-turn-allowed-requires
-turn-allowed-requires c κs = (search slice-long, search report-known)
+turn-allowed-requires c κs = search slice-long
 
 returns : tie.Need-returns
 unfolding turning
