@@ -1,4 +1,5 @@
--- The laws about choices and bus programs.
+-- The laws about choices, bus programs, and contracts that leave one answer.
 pub mod Choices
 pub mod Run
 pub mod Secret
+pub mod Only

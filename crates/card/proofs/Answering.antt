@@ -5,7 +5,6 @@ use Prim.Native.Nat.{ℕ, _≤_, _<_}
 use mathlib.Core.List.{List, [], _∷_}
 use lib.Dec.{eqb, ltb}
 use borrow.Author.Tests.{lt-ltb, le-ltb}
-use Rattle.bus.specs.Choice.{if_then_else_}
 use Rattle.bus.specs.Bus.{Bus, Ended, run, done, _>>=_}
 use Rattle.bus.proofs.Run.{run-gives, after}
 use Rattle.bus.proofs.Choices.{if-true, if-false}

@@ -1,6 +1,6 @@
 -- The act "frame arrival".
 use Prim.Native.Nat.{ℕ, _+_, _%_}
-use mathlib.Core.Bool.{Bool, not}
+use mathlib.Core.Bool.{Bool}
 use mathlib.Core.List.{List}
 use lib.ListN.{length, take}
 use lib.Dec.{ltb}
@@ -11,7 +11,6 @@ use Rattle.ring.specs.declared.Slot.{Slot}
 use Rattle.registers.specs.Bits.{MISS, MERR, RINT, RXON, TXON}
 use Rattle.registers.specs.Csr0.{change}
 use Rattle.filter.specs.Filter.{ours}
-use Rattle.receive.specs.declared.Walked.{Walked}
 use Rattle.receive.specs.declared.Ending.{Ending}
 use Rattle.receive.specs.declared.Ending.the-variants.{Memory, Missed, Received, Cut}
 use Rattle.receive.specs.Status.{endStatus}

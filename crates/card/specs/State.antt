@@ -1,6 +1,6 @@
 -- The card's state after reset, and with some of its parts exchanged.
 use Prim.Native.Nat.{ℕ}
-use mathlib.Core.Bool.{Bool, true, false}
+use mathlib.Core.Bool.{Bool, false}
 use lib.ListN.{replicate}
 use Rattle.ring.specs.declared.Slot.{Slot}
 use Rattle.ring.specs.Loading.{noRing}

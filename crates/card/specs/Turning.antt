@@ -12,7 +12,7 @@ use Rattle.registers.specs.Bits.{BABL, CERR, MERR, TINT, RXON, TXON, TDMD}
 use Rattle.registers.specs.Csr0.{change}
 use Rattle.transmit.specs.declared.Outcome.{Outcome}
 use Rattle.transmit.specs.declared.Outcome.the-variants.{Idle, OutOfMemory, Underflow, Failed, Sent}
-use Rattle.transmit.specs.Turn.{Turn, turn}
+use Rattle.transmit.specs.Turn.{turn}
 use Rattle.card.specs.declared.Card.{Card}
 use Rattle.card.specs.declared.Answer.{Answer}
 use Rattle.card.specs.declared.Answer.the-variants.{Off}

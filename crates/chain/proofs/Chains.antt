@@ -114,7 +114,7 @@ module _ (n base slots : ℕ) (m : List ℕ) where
   opened r NotOwned = run-done (Over Short r) m
   opened r (Owned d) = run-done (grow n slots d r) m
 
-  pub run-link : (c : Chain) → run (link n base slots c) m ≡ record { answer = linked c; memory = m }
+  run-link : (c : Chain) → run (link n base slots c) m ≡ record { answer = linked c; memory = m }
   unfolding link linked
   run-link (Open r) =
       after (look n base (r .slot))

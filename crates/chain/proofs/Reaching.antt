@@ -25,7 +25,7 @@ use Rattle.chain.specs.Laid.{later, descriptor, buffer, buffers, Inside,
 use Rattle.chain.proofs.Chains.{grown, linkeds, kept, run-chain}
 
 -- the slot after k slots comes after the slot that is the last of them
-later-last : (slots k : ℕ) (i : Slot) → later slots (suc k) i ≡ nextOf slots (later slots k i)
+pub later-last : (slots k : ℕ) (i : Slot) → later slots (suc k) i ≡ nextOf slots (later slots k i)
 unfolding later
 later-last slots zero i = refl
 later-last slots (suc k) i = later-last slots k (nextOf slots i)

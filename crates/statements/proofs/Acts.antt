@@ -6,7 +6,7 @@ use mathlib.Core.Bool.{Bool, true, false, not, _||_, or-true}
 use mathlib.Core.List.{List, _∷_}
 use lib.ListN.{length}
 use Rattle.bus.specs.Choice.{if_then_else_}
-use Rattle.bus.specs.Bus.{Bus, done, words, _>>=_}
+use Rattle.bus.specs.Bus.{Bus, done, words}
 use Rattle.bus.specs.Secrecy.{Loads}
 use Rattle.bus.proofs.Secret.{loads-then, loads-words}
 use Rattle.ring.specs.declared.Slot.{Slot}

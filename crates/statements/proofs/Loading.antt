@@ -1,5 +1,5 @@
 -- What reading descriptors and walking the receive ring loads.
-use Prim.Native.Nat.{ℕ, zero, suc, _+_, _-_, _≤_, _<_}
+use Prim.Native.Nat.{ℕ, zero, suc, _+_, _-_, _<_}
 use native.Mathlib.Omega.{arith}
 use mathlib.Core.Bool.{Bool, true, false}
 use mathlib.Core.List.{List}
@@ -15,7 +15,7 @@ use Rattle.ring.specs.Ring.{nextOf, placeOf}
 use Rattle.ring.specs.Descriptor.{look, foundIn, by_outside:_not-owned:_owned:_}
 use Rattle.receive.specs.declared.Walked.{Walked}
 use Rattle.statements.proofs.Slots.{next-within}
-use Rattle.receive.specs.Walk.{walked, status, mcnt, cut, ended, merr, beyond, put, fill, walk}
+use Rattle.receive.specs.Walk.{status, mcnt, cut, ended, merr, beyond, put, fill, walk}
 
 -- whichever way a test goes
 pub loads-if : {A : Type 0} (Q : ℕ → Type 0) (b : Bool) (p q : Bus A) (m : List ℕ) → Loads Q p m → Loads Q q m → Loads Q (if b then p else q) m

@@ -5,18 +5,18 @@ use native.Mathlib.Decide.{ℕ-discrete, decLt}
 use native.Mathlib.Numerals.{add-one}
 use native.Mathlib.Omega.{arith}
 use mathlib.Core.Path.{_≡_, refl, sym, ap, subst, _∙_}
-use mathlib.Core.Bool.{Bool, true, false, _||_}
+use mathlib.Core.Bool.{Bool, true, false}
 use mathlib.Core.Logic.{inr, ⊎-elim}
-use mathlib.Core.List.{List, [], _∷_, _++_}
+use mathlib.Core.List.{List}
 use lib.ListN.{length, getD, set, List·getD-eq-default}
 use lib.Dec.{leb, lit<}
 use lib.Seq.{ext-getD, getD-set-same, getD-set-other, set-out}
 use borrow.Author.Tests.{leb-true}
 use Rattle.bus.specs.Choice.{if_then_else_}
 use Rattle.bus.specs.Bits.{bit}
-use Rattle.bus.specs.Bus.{Bus, done, load, store, reads, bytes, part, run, Ended, _>>=_, _>>_}
+use Rattle.bus.specs.Bus.{Bus, done, store, reads, bytes, part, run, Ended, _>>=_, _>>_}
 use Rattle.bus.specs.Secrecy.{Loads}
-use Rattle.bus.proofs.Run.{after, run-reads, run-done, getD-part, length-part}
+use Rattle.bus.proofs.Run.{after, run-reads, getD-part, length-part}
 use Rattle.bus.proofs.Secret.{loads-then, loads-reads, loads-bytes, loads-more}
 use Rattle.ring.specs.declared.Slot.{Slot}
 use Rattle.ring.specs.declared.Descriptor.{Descriptor}
@@ -32,16 +32,17 @@ use Rattle.chain.specs.declared.Close.{Close}
 use Rattle.chain.specs.declared.Close.the-variants.{Whole, Memory, Short, Long}
 use Rattle.chain.specs.declared.Chain.{Chain}
 use Rattle.chain.specs.declared.Chain.the-variants.{Open, Over}
-use Rattle.chain.specs.declared.Closed.{Closed}
 use Rattle.chain.specs.Status.{STP, withoutOwn}
 use Rattle.chain.specs.Start.{pass}
 use Rattle.chain.specs.Chain.{further, grow, closed, link, links, chain}
 use Rattle.chain.specs.Laid.{later}
 use Rattle.chain.proofs.Passing.{pass-owned}
-use Rattle.chain.proofs.Chains.{grown, linked, linkeds, kept, run-link, run-chain}
+use Rattle.chain.proofs.Chains.{grown, linkeds, kept, run-chain}
+use Rattle.chain.proofs.Reaching.{later-last}
 use Rattle.transmit.specs.Turn.{finish, gather, release, giveBack, send, ending, goOn, turn}
 use Rattle.statements.proofs.Loading.{loads-if, loads-by, loads-done, loads-look}
-use Rattle.statements.proofs.Slots.{next-within}
+use Rattle.statements.proofs.Ends.{Ends}
+use Rattle.statements.proofs.Slots.{next-within, StartIn, ChainIn, pass-within, grow-within, link-within}
 
 -- a descriptor that is found owned has OWN set
 owns : (b o : Bool) (x : ℕ) (bs : List ℕ) (d : Descriptor) → leb 128 x ≡ o
@@ -111,39 +112,30 @@ module _ (base slots : ℕ) (s : List ℕ) where
           let r : 128 ≤ getD (set m a v) a 0 = subst (λ (x : ℕ). 128 ≤ getD (set m a v) x 0) p o in
           absurd (omega arith)
 
-  -- what passing slots leaves: a start in the ring
-  unfoldable StartIn : Start → Type 0
-  StartIn (NoMemory i) = Unit {0}
-  StartIn (Nothing i) = Unit {0}
-  StartIn (Frame i d) = i .0 < slots
-
-  record Passed (e : Ended Start) : Type 0 where
-    since : Since (e .memory)
-    start : StartIn (e .answer)
-
+  -- passing slots leaves it so
   module _ (n : ℕ) where
     onward : ℕ → Slot → Found → Bus Start
     onward k i f =
         by f outside: (done (NoMemory i)) not-owned: (done (Nothing i)) owned: (λ d.
         if bit (d .status) STP then done (Frame i d) else store (placeOf base i + 3) (withoutOwn (d .status)) (pass n base slots k (nextOf slots i)))
 
-    passed-on : (k : ℕ) (i : Slot) (m : List ℕ) → i .0 < slots → Since m
-        → ((x : List ℕ) → Since x → Passed (run (pass n base slots k (nextOf slots i)) x)) → (f : Found) → Passed (run (onward k i f) m)
-    unfolding onward by_outside:_not-owned:_owned:_ if_then_else_ withoutOwn run StartIn
-    passed-on k i m w h next Outside = record { since = h; start = tt }
-    passed-on k i m w h next NotOwned = record { since = h; start = tt }
-    passed-on k i m w h next (Owned d) = go (bit (d .status) STP)
+    passed-on : (k : ℕ) (i : Slot) (m : List ℕ) → Since m
+        → ((x : List ℕ) → Since x → Since (run (pass n base slots k (nextOf slots i)) x .memory)) → (f : Found) → Since (run (onward k i f) m .memory)
+    unfolding onward by_outside:_not-owned:_owned:_ if_then_else_ withoutOwn run
+    passed-on k i m h next Outside = h
+    passed-on k i m h next NotOwned = h
+    passed-on k i m h next (Owned d) = go (bit (d .status) STP)
       where
-        go : (b : Bool) → Passed (run (if b then done (Frame i d) else store (placeOf base i + 3) (withoutOwn (d .status)) (pass n base slots k (nextOf slots i))) m)
-        go true = record { since = h; start = w }
+        go : (b : Bool) → Since (run (if b then done (Frame i d) else store (placeOf base i + 3) (withoutOwn (d .status)) (pass n base slots k (nextOf slots i))) m .memory)
+        go true = h
         go false = next (set m (placeOf base i + 3) (withoutOwn (d .status))) (since-pass m i (withoutOwn (d .status)) (omega arith) h)
 
-    passed : (k : ℕ) (i : Slot) (m : List ℕ) → i .0 < slots → Since m → Passed (run (pass n base slots k i) m)
-    unfolding pass run StartIn onward
-    passed zero i m w h = record { since = h; start = tt }
-    passed (suc k) i m w h =
-        subst Passed (sym (after (look n base i) (onward k i) m m (found n base i m) (run-look n base i m)))
-        (passed-on k i m w h (λ x g. passed k (nextOf slots i) x (next-within slots i (omega arith)) g) (found n base i m))
+    passed : (k : ℕ) (i : Slot) (m : List ℕ) → Since m → Since (run (pass n base slots k i) m .memory)
+    unfolding pass run onward
+    passed zero i m h = h
+    passed (suc k) i m h =
+        subst (λ (x : Ended Start). Since (x .memory)) (sym (after (look n base i) (onward k i) m m (found n base i m) (run-look n base i m)))
+        (passed-on k i m h (passed k (nextOf slots i)) (found n base i m))
 
 -- a program after another, where it is known what the first leaves
 loads-after : {A B : Type 0} (Q : ℕ → Type 0) (p : Bus A) (k : A → Bus B) (m m′ : List ℕ) (a : A) → run p m ≡ record { answer = a; memory = m′ }
@@ -163,11 +155,6 @@ module _ (n base slots : ℕ) (m : List ℕ) (i : Slot) where
   Held (Open r) = Chained r
   Held (Over e r) = OwnedTo r
 
-  later-last : (k : ℕ) (j : Slot) → later slots (suc k) j ≡ nextOf slots (later slots k j)
-  unfolding later
-  later-last zero j = refl
-  later-last (suc k) j = later-last k (nextOf slots j)
-
   grow-held : (r : Reach) (d : Descriptor) → found n base (r .slot) m ≡ Owned d → Chained r → Held (grow n slots d r)
   unfolding Held OwnedTo further
   grow-held r d f c =
@@ -175,7 +162,7 @@ module _ (n base slots : ℕ) (m : List ℕ) (i : Slot) where
       λ x l. ⊎-elim (λ (e : x ≡ r .slots). subst (λ (j : Slot). 128 ≤ getD m (placeOf base j + 3) 0) (c .slot ∙ ap (λ (y : ℕ). later slots y i) (sym e)) (found-owned n base (r .slot) m d f))
       (λ (h : x < r .slots). c .owned x h) (eq-or-lt-of-le {n = x} {m = r .slots} (omega arith)) in
       grown n slots d r Held (c .owned) (λ l. more) (λ l t. more)
-      (λ l t. record { slot = ap (nextOf slots) (c .slot) ∙ sym (later-last (r .slots) i) ∙ ap (λ (y : ℕ). later slots y i) (sym (add-one (r .slots))); owned = more })
+      (λ l t. record { slot = ap (nextOf slots) (c .slot) ∙ sym (later-last slots (r .slots) i) ∙ ap (λ (y : ℕ). later slots y i) (sym (add-one (r .slots))); owned = more })
 
   closed-owned : (c : Chain) → Held c → OwnedTo (closed c .reach)
   unfolding Held closed
@@ -209,40 +196,19 @@ module _ (Q : ℕ → Type 0) (base slots : ℕ) (s : List ℕ)
         (λ d. loads-if Q _ _ _ _ (loads-done Q _ _)
         (loads-stored _ _ _ _ (loads-pass k (nextOf slots i) _ (next-within slots i (omega arith))))))
 
-    -- an open chain's next slot is one of the ring's
-    unfoldable ChainIn : Chain → Type 0
-    ChainIn (Open r) = r .slot .0 < slots
-    ChainIn (Over e r) = Unit {0}
-
-    grow-in : (d : Descriptor) (r : Reach) → r .slot .0 < slots → ChainIn (grow n slots d r)
-    unfolding ChainIn further
-    grow-in d r w = grown n slots d r ChainIn tt (λ l. tt) (λ l t. tt) (λ l t. next-within slots (r .slot) (omega arith))
-
-    found-in : (f : Found) (r : Reach) → r .slot .0 < slots
-        → ChainIn (by f outside: (Over Memory r) not-owned: (Over Short r) owned: (λ d. grow n slots d r))
-    unfolding by_outside:_not-owned:_owned:_ ChainIn
-    found-in Outside r w = tt
-    found-in NotOwned r w = tt
-    found-in (Owned d) r w = grow-in d r w
-
-    linked-in : (c : Chain) (m : List ℕ) → ChainIn c → ChainIn (linked n base slots m c)
-    unfolding ChainIn linked
-    linked-in (Open r) m w = found-in (found n base (r .slot) m) r w
-    linked-in (Over e r) m w = tt
-
-    loads-link : (c : Chain) (m : List ℕ) → ChainIn c → Loads Q (link n base slots c) m
-    unfolding link ChainIn
+    loads-link : (c : Chain) (m : List ℕ) → ChainIn slots c → Loads Q (link n base slots c) m
+    unfolding link
     loads-link (Open r) m w =
         loads-then Q (look n base (r .slot)) _ m (loads-look Q base slots may n (r .slot) m w)
         (loads-by Q _ _ _ _ _ (loads-done Q _ _) (loads-done Q _ _) (λ d. loads-done Q _ _))
     loads-link (Over e r) m w = loads-done Q _ m
 
-    loads-links : (k : ℕ) (c : Chain) (m : List ℕ) → ChainIn c → Loads Q (links n base slots k c) m
-    unfolding links
-    loads-links zero c m w = loads-done Q _ m
-    loads-links (suc k) c m w =
-        loads-after Q (link n base slots c) (links n base slots k) m m (linked n base slots m c) (run-link n base slots m c) (loads-link c m w)
-        (loads-links k (linked n base slots m c) m (linked-in c m w))
+    loads-links : (k : ℕ) (c : Chain) (m : List ℕ) → 0 < slots → ChainIn slots c → Loads Q (links n base slots k c) m
+    unfolding links Ends
+    loads-links zero c m o w = loads-done Q _ m
+    loads-links (suc k) c m o w =
+        loads-then Q (link n base slots c) (links n base slots k) m (loads-link c m w)
+        (loads-links k (run (link n base slots c) m .answer) (run (link n base slots c) m .memory) o (link-within slots n base o c w m))
 
   loads-release : (k : ℕ) (i : Slot) (m : List ℕ) → i .0 < slots → Loads Q (release base slots k i) m
   unfolding release Loads
@@ -301,19 +267,21 @@ module _ (Q : ℕ → Type 0) (base slots : ℕ) (s : List ℕ)
     loads-ending append i Long r m w h o =
         loads-then Q (giveBack base slots _ _ (r .slots) i) _ m (loads-give-back _ _ (r .slots) i m w) (loads-done Q _ _)
 
-    loads-go-on : (n : ℕ) (always : Bool) (a : Start) (m₀ m : List ℕ) (i : Slot) → run (pass n base slots slots i) m₀ ≡ record { answer = a; memory = m }
-        → Passed base slots s (record { answer = a; memory = m }) → Loads Q (goOn base slots n report deferred always a) m
-    unfolding goOn StartIn chain OwnedTo ChainIn
-    loads-go-on n always (NoMemory j) m₀ m i e p = loads-done Q _ m
-    loads-go-on n always (Nothing j) m₀ m i e p = loads-done Q _ m
-    loads-go-on n always (Frame j d) m₀ m i e p =
+    loads-go-on : (n : ℕ) (always : Bool) (a : Start) (m₀ m : List ℕ) (i : Slot) → 0 < slots
+        → run (pass n base slots slots i) m₀ ≡ record { answer = a; memory = m } → StartIn slots a → Since base slots s m
+        → Loads Q (goOn base slots n report deferred always a) m
+    unfolding goOn chain OwnedTo
+    loads-go-on n always (NoMemory j) m₀ m i o e w h = loads-done Q _ m
+    loads-go-on n always (Nothing j) m₀ m i o e w h = loads-done Q _ m
+    loads-go-on n always (Frame j d) m₀ m i o e w h =
         loads-after Q (chain n base slots j d) _ m m _ (run-chain n base slots m j d)
-        (loads-then Q (links n base slots (slots - 1) _) _ m (loads-links n (slots - 1) _ m (grow-in n d _ (p .start))) (loads-done Q _ _))
-        (loads-ending _ j _ _ m (p .start) (p .since) (chain-owned n base slots m j d (pass-owned n base slots slots i j d m₀ m e)))
+        (loads-then Q (links n base slots (slots - 1) _) _ m (loads-links n (slots - 1) _ m o (grow-within slots n base o d _ w)) (loads-done Q _ _))
+        (loads-ending _ j _ _ m w h (chain-owned n base slots m j d (pass-owned n base slots slots i j d m₀ m e)))
 
     -- the whole turn, from a slot of the ring
     pub loads-turn : (n : ℕ) (always : Bool) (i : Slot) → i .0 < slots → Loads Q (turn base slots n report deferred always i) s
-    unfolding turn
+    unfolding turn Ends
     loads-turn n always i w =
+        let o : 0 < slots = omega arith in
         loads-then Q (pass n base slots slots i) _ s (loads-pass n slots i s w)
-        (loads-go-on n always _ s _ i refl (passed base slots s n slots i s w (record { same = λ j l o. refl })))
+        (loads-go-on n always _ s _ i o refl (pass-within slots n base o slots i w s) (passed base slots s n slots i s (record { same = λ j l o. refl })))

@@ -43,13 +43,13 @@ module _ (slots : ℕ) where
   WalkedIn w = w .slot .0 < slots
 
   -- a start that is found there
-  abbrev StartIn : Start → Type 0
+  abbrev pub StartIn : Start → Type 0
   StartIn (NoMemory i) = i .0 < slots
   StartIn (Nothing i) = i .0 < slots
   StartIn (Frame i d) = i .0 < slots
 
   -- a chain that goes on there
-  abbrev ChainIn : Chain → Type 0
+  abbrev pub ChainIn : Chain → Type 0
   ChainIn (Open r) = r .slot .0 < slots
   ChainIn (Over e r) = r .slot .0 < slots
 
@@ -102,7 +102,7 @@ module _ (slots : ℕ) where
           fill-within (slots - 1) i d f STP h m))
 
     -- passing to the start of a frame
-    pass-within : (k : ℕ) (i : Slot) → i .0 < slots → (m : List ℕ) → Ends StartIn m (pass n base slots k i)
+    pub pass-within : (k : ℕ) (i : Slot) → i .0 < slots → (m : List ℕ) → Ends StartIn m (pass n base slots k i)
     unfolding pass Ends run
     pass-within zero i h m = h
     pass-within (suc k) i h m =
@@ -111,12 +111,12 @@ module _ (slots : ℕ) where
         so-if (Ends StartIn m) _ _ _ h (pass-within k (nextOf slots i) (next-within slots i some) _)))
 
     -- the chain from there
-    grow-within : (d : Descriptor) (r : Reach) → r .slot .0 < slots → ChainIn (grow n slots d r)
+    pub grow-within : (d : Descriptor) (r : Reach) → r .slot .0 < slots → ChainIn (grow n slots d r)
     unfolding grow further
     grow-within d r h =
         so-if ChainIn _ _ _ h (so-if ChainIn _ _ _ (next-within slots _ some) (so-if ChainIn _ _ _ (next-within slots _ some) (next-within slots _ some)))
 
-    link-within : (c : Chain) → ChainIn c → (m : List ℕ) → Ends ChainIn m (link n base slots c)
+    pub link-within : (c : Chain) → ChainIn c → (m : List ℕ) → Ends ChainIn m (link n base slots c)
     unfolding link
     link-within (Open r) h m =
         ends-after ChainIn _ _ m (λ found m.

@@ -1,12 +1,11 @@
 -- "Twelve cases for the proof table": each with what the definitions give and what document 01 says.
-use Prim.Native.Nat.{ℕ, _+_}
-use mathlib.Core.Bool.{Bool, true, false}
+use Prim.Native.Nat.{ℕ}
+use mathlib.Core.Bool.{true, false}
 use mathlib.Core.List.{List, [], _∷_, _++_}
 use lib.ListN.{length, getD, replicate}
 use Rattle.fcs.specs.Fcs.{fcsOf}
 use Rattle.bus.specs.Bits.{put}
 use Rattle.bus.specs.Bus.{run}
-use Rattle.ring.specs.declared.Ring.{Ring}
 use Rattle.ring.specs.Ring.{counterOf, lengthCounter}
 use Rattle.ring.specs.Loading.{ringFrom}
 use Rattle.ring.specs.Descriptor.{countOf}

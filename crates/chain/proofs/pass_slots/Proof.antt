@@ -2,7 +2,6 @@
 use Rattle.chain.proofs.Passing.{look-inside}
 use Rattle.chain.proofs.Passing.{pass-over, pass-outside, pass-not-owned, pass-frame, pass-on}
 use mathlib.Core.Path.{_≡_, refl}
-use Prim.Native.Nat.{_-_}
 use native.Mathlib.Omega.{arith}
 use borrow.Author.Needs.{needs}
 use lib.ListN.{length}
