@@ -1,0 +1,292 @@
+// Cards brought to a state by acts, and what is looked at afterwards.
+use crate::bytes::Bytes;
+use crate::bytes::put_word;
+use card::Answer;
+use card::Card;
+use card::Refusal;
+use card::Told;
+use registers::Csr0;
+use ring::Ring;
+use ring::Slot;
+
+// All of the memory.
+pub const WHOLE: usize = 8192;
+
+// The card after reset.
+pub fn fresh() -> Card {
+    let blank = Card {
+        csr0: Csr0::at_rest(),
+        rap: 0,
+        csr1: 0,
+        csr2: 0,
+        csr3: 0,
+        missed: 0,
+        initialized: false,
+        mode: 0,
+        address: [0; 6],
+        filter: [0; 4],
+        receive: Ring::none(),
+        transmit: Ring::none(),
+    };
+    let told = blank.reset();
+    told.card
+}
+
+// The act "register write", with the first `size` bytes lent.
+pub fn write(c: Card, m: &Bytes, size: usize, offset: u32, v: u16) -> Told {
+    write_in(c, m, size, offset, v)
+}
+
+// The same on a slice; a `size` that is too large lends it whole.
+fn write_in(c: Card, m: &[u8], size: usize, offset: u32, v: u16) -> Told {
+    if size < m.len() {
+        return c.write(&m[0..size], offset, v);
+    }
+    c.write(m, offset, v)
+}
+
+// The act "frame arrival", with the first `size` bytes lent and a frame of `n` bytes.
+pub fn arrive(c: Card, m: &mut Bytes, size: usize, f: &Bytes, n: usize, extra: u32) -> Told {
+    arrive_in(c, m, size, f, n, extra)
+}
+
+// The same on slices; a `size` that is too large lends the memory whole.
+fn arrive_in(c: Card, m: &mut [u8], size: usize, f: &[u8], n: usize, extra: u32) -> Told {
+    if n <= f.len() {
+        if size < m.len() {
+            return c.arrive(&mut m[0..size], &f[0..n], extra);
+        }
+        return c.arrive(m, &f[0..n], extra);
+    }
+    c.reset()
+}
+
+// The act "transmit turn", with the first `size` bytes lent and an outgoing slice of `room` bytes.
+pub fn turn(
+    c: Card,
+    m: &mut Bytes,
+    size: usize,
+    out: &mut Bytes,
+    room: usize,
+    report: u32,
+    deferred: bool,
+    quiet: bool,
+) -> Told {
+    turn_in(c, m, size, out, room, report, deferred, quiet)
+}
+
+// The same on slices; a `size` that is too large lends the memory whole.
+fn turn_in(
+    c: Card,
+    m: &mut [u8],
+    size: usize,
+    out: &mut [u8],
+    room: usize,
+    report: u32,
+    deferred: bool,
+    quiet: bool,
+) -> Told {
+    if room <= out.len() {
+        if size < m.len() {
+            return c.turn(&mut m[0..size], &mut out[0..room], report, deferred, quiet);
+        }
+        return c.turn(m, &mut out[0..room], report, deferred, quiet);
+    }
+    c.reset()
+}
+
+// A write to a CSR, through RAP.
+pub fn written(c: Card, m: &Bytes, size: usize, r: u16, v: u16) -> Told {
+    let selected = write(c, m, size, 0x12, r);
+    let c = selected.card;
+    write(c, m, size, 0x10, v)
+}
+
+// A read of a CSR, through RAP.
+pub fn seen(c: Card, r: u16) -> Told {
+    let c = selected(c, r);
+    c.read(0x10)
+}
+
+// A card with another CSR behind RDP.
+pub fn selected(c: Card, r: u16) -> Card {
+    let none = [0u8; 1];
+    let told = c.write(&none, 0x12, r);
+    told.card
+}
+
+// The initialization block at 10h: station address 02-60-8C-01-02-03, no filter, and the words of the two rings.
+pub fn block(
+    m: &mut Bytes,
+    mode: u16,
+    receive: u16,
+    receive_high: u16,
+    transmit: u16,
+    transmit_high: u16,
+) {
+    station(m, mode);
+    put_word(m, 0x20, receive);
+    put_word(m, 0x22, receive_high);
+    put_word(m, 0x24, transmit);
+    put_word(m, 0x26, transmit_high);
+}
+
+// The block's first eight words.
+fn station(m: &mut Bytes, mode: u16) {
+    put_word(m, 0x10, mode);
+    put_word(m, 0x12, 0x6002);
+    put_word(m, 0x14, 0x018C);
+    put_word(m, 0x16, 0x0302);
+    unfiltered(m);
+}
+
+// A filter of no bit.
+fn unfiltered(m: &mut Bytes) {
+    put_word(m, 0x18, 0);
+    put_word(m, 0x1A, 0);
+    put_word(m, 0x1C, 0);
+    put_word(m, 0x1E, 0);
+}
+
+// A reset card that is told where the block stands (an odd address, of which bit 0 counts as 0), then a write to CSR0.
+pub fn begin(m: &Bytes, size: usize, v: u16) -> Told {
+    let told = written(fresh(), m, size, 1, 0x11);
+    let told = written(told.card, m, size, 2, 0);
+    written(told.card, m, size, 0, v)
+}
+
+// A running card, CSR0 0073h: INIT, STRT and IENA, then IDON is cleared.
+pub fn running(m: &Bytes) -> Card {
+    let told = begin(m, WHOLE, 0x0043);
+    let told = written(told.card, m, WHOLE, 0, 0x0140);
+    told.card
+}
+
+// A running card over the given block, with the receive ring at 40h and the transmit ring at 80h, of 1 (0) to 8 (6000h) slots.
+pub fn started(m: &mut Bytes, mode: u16, receive_high: u16, transmit_high: u16) -> Card {
+    block(m, mode, 0x40, receive_high, 0x80, transmit_high);
+    running(m)
+}
+
+// A number of its own for each answer and its value.
+fn code(answer: Answer) -> u32 {
+    match answer {
+        Answer::Refused(why) => number(why),
+        Answer::Done(v) => 0x10000 + v as u32,
+        Answer::Sent(n) => 0x20000 + n as u32,
+        Answer::Off => 0x30001,
+        Answer::Runt => 0x30002,
+        Answer::NotOurs => 0x30003,
+        Answer::Missed => 0x30004,
+        Answer::Received => 0x30005,
+        Answer::Cut => 0x30006,
+        Answer::Memory => 0x30007,
+        Answer::Idle => 0x30008,
+        Answer::Underflow => 0x30009,
+        Answer::Failed => 0x3000A,
+    }
+}
+
+// The number of a refusal.
+fn number(why: Refusal) -> u32 {
+    card::number(why) as u32
+}
+
+// Whether the answer is the expected one.
+pub fn is(told: Told, answer: Answer) -> bool {
+    let got = told.answer;
+    code(got) == code(answer)
+}
+
+// Whether a CSR reads as expected.
+pub fn reads(c: Card, r: u16, v: u16) -> bool {
+    is(seen(c, r), Answer::Done(v))
+}
+
+// Whether answer, CSR0 and line are the expected ones.
+pub fn shows(told: Told, answer: Answer, csr0: u16, line: bool) -> bool {
+    let c = told.card;
+    is(told, answer) & reads(c, 0, csr0) & (told.line == line)
+}
+
+// Whether these slots are current.
+pub fn slots(told: Told, receive: u16, transmit: u16) -> bool {
+    let c = told.card;
+    (c.receive.slot.0 == receive) & (c.transmit.slot.0 == transmit)
+}
+
+// Whether two rings are the same.
+fn same_ring(a: Ring, b: Ring) -> bool {
+    (a.base == b.base) & (a.length == b.length) & (a.slot.0 == b.slot.0)
+}
+
+// Whether two station addresses are the same.
+fn same_address(a: [u8; 6], b: [u8; 6]) -> bool {
+    (a[0] == b[0])
+        & (a[1] == b[1])
+        & (a[2] == b[2])
+        & (a[3] == b[3])
+        & (a[4] == b[4])
+        & (a[5] == b[5])
+}
+
+// Whether two filters are the same.
+fn same_filter(a: [u16; 4], b: [u16; 4]) -> bool {
+    (a[0] == b[0]) & (a[1] == b[1]) & (a[2] == b[2]) & (a[3] == b[3])
+}
+
+// Whether the registers of two cards are the same.
+fn same_registers(a: Card, b: Card) -> bool {
+    let x = a.csr0;
+    let y = b.csr0;
+    (x.word(a.csr3) == y.word(b.csr3))
+        & (a.rap == b.rap)
+        & (a.csr1 == b.csr1)
+        & (a.csr2 == b.csr2)
+        & (a.csr3 == b.csr3)
+        & (a.missed == b.missed)
+        & (a.initialized == b.initialized)
+        & (a.mode == b.mode)
+}
+
+// Whether two cards are the same.
+pub fn same_card(a: Card, b: Card) -> bool {
+    let aa = a.address;
+    let ba = b.address;
+    let af = a.filter;
+    let bf = b.filter;
+    let ar = a.receive;
+    let br = b.receive;
+    let at = a.transmit;
+    let bt = b.transmit;
+    same_registers(a, b)
+        & same_address(aa, ba)
+        & same_filter(af, bf)
+        & same_ring(ar, br)
+        & same_ring(at, bt)
+}
+
+// Whether a call was refused with a number, the card being kept and the line as expected.
+pub fn refused(told: Told, why: Refusal, kept: Card, line: bool) -> bool {
+    let c = told.card;
+    is(told, Answer::Refused(why)) & same_card(c, kept) & (told.line == line)
+}
+
+// The same card at another receive slot, which may make its state unsound.
+pub fn moved(mut c: Card, slot: u16) -> Card {
+    let base = c.receive.base;
+    let length = c.receive.length;
+    let ring = Ring {
+        base,
+        length,
+        slot: Slot(slot),
+    };
+    c.receive = ring;
+    c
+}
+
+// The same card with another count of missed frames.
+pub fn counted(mut c: Card, missed: u16) -> Card {
+    c.missed = missed;
+    c
+}

@@ -1,0 +1,142 @@
+// The card that is compared, with STOP set and clear, and the comparison of two cards.
+use card::Answer;
+use card::Card;
+use card::Told;
+use registers::Csr0;
+use ring::Ring;
+
+// The initialization block, and 16 bytes before it: MODE 0040h, address 02-60-8C-01-02-03, LADRF 01-23-45-67-89-AB-CD-EF,
+// receive words 2345h 4001h (base 012340h, 4 slots), transmit words FFFFh 9FABh (base ABFFF8h, 16 slots).
+fn block() -> [u8; 40] {
+    *b"\0\0\0\0\0\0\0\0\0\0\0\0\0\0\0\0\x40\x00\x02\x60\x8c\x01\x02\x03\x01\x23\x45\x67\x89\xab\xcd\xef\x45\x23\x01\x40\xff\xff\xab\x9f"
+}
+
+// The card after reset.
+fn fresh() -> Card {
+    let blank = Card {
+        csr0: Csr0::at_rest(),
+        rap: 0,
+        csr1: 0,
+        csr2: 0,
+        csr3: 0,
+        missed: 0,
+        initialized: false,
+        mode: 0,
+        address: [0; 6],
+        filter: [0; 4],
+        receive: Ring::none(),
+        transmit: Ring::none(),
+    };
+    let told = blank.reset();
+    told.card
+}
+
+// A card with another CSR behind RDP. RAP keeps the written value modulo 128, so 128 or a multiple more selects the same.
+pub fn selected(c: Card, r: u16) -> Card {
+    let told = write(c, 0x12, std::num::wrapping_add_u16(r, 0xFF80));
+    told.card
+}
+
+// A write, the block being lent.
+pub fn write(c: Card, offset: u32, v: u16) -> Told {
+    let m = block();
+    c.write(&m, offset, v)
+}
+
+// A write to a CSR.
+fn written(c: Card, r: u16, v: u16) -> Card {
+    let told = write(selected(c, r), 0x10, v);
+    told.card
+}
+
+// A card that was initialized (the block's address is odd, and its bit 0 counts as 0) and then stopped.
+pub fn stopped() -> Card {
+    let c = written(fresh(), 1, 0x0011);
+    let c = written(c, 2, 0x0000);
+    let c = written(c, 0, 0x0001);
+    written(c, 0, 0x0004)
+}
+
+// The same card started with IENA, by a new initialization whose IDON was cleared: CSR0 is 0073h.
+pub fn running() -> Card {
+    let c = written(stopped(), 0, 0x0043);
+    written(c, 0, 0x0140)
+}
+
+// Whether an answer is a refusal with this number, or for 0 the value.
+pub fn answers(told: Told, number: u8, v: u16) -> bool {
+    let answer = told.answer;
+    match answer {
+        Answer::Refused(why) => card::number(why) == number,
+        Answer::Done(got) => (number == 0) & (got == v),
+        _ => false,
+    }
+}
+
+// Whether two rings are the same.
+fn same_ring(a: Ring, b: Ring) -> bool {
+    (a.base == b.base) & (a.length == b.length) & (a.slot.0 == b.slot.0)
+}
+
+// Whether what two cards have been initialized with is the same.
+fn same_loaded(a: Card, b: Card) -> bool {
+    let x = a.address;
+    let y = b.address;
+    let f = a.filter;
+    let g = b.filter;
+    (x[0] == y[0])
+        & (x[1] == y[1])
+        & (x[2] == y[2])
+        & (x[3] == y[3])
+        & (x[4] == y[4])
+        & (x[5] == y[5])
+        & (f[0] == g[0])
+        & (f[1] == g[1])
+        & (f[2] == g[2])
+        & (f[3] == g[3])
+}
+
+// Whether two cards are the same.
+pub fn same_card(a: Card, b: Card) -> bool {
+    let x = a.csr0;
+    let y = b.csr0;
+    let ar = a.receive;
+    let br = b.receive;
+    let at = a.transmit;
+    let bt = b.transmit;
+    (x.word(a.csr3) == y.word(b.csr3))
+        & (a.rap == b.rap)
+        & (a.csr1 == b.csr1)
+        & (a.csr2 == b.csr2)
+        & (a.csr3 == b.csr3)
+        & (a.missed == b.missed)
+        & (a.initialized == b.initialized)
+        & (a.mode == b.mode)
+        & same_loaded(a, b)
+        & same_ring(ar, br)
+        & same_ring(at, bt)
+}
+
+// Whether a card is that after reset.
+pub fn is_fresh(c: Card) -> bool {
+    same_card(c, fresh())
+}
+
+// A card with one of CSR0 to CSR3 as after reset, so that the others can be compared.
+pub fn without(mut c: Card, r: u8) -> Card {
+    if r == 0 {
+        let rest = Csr0::at_rest();
+        c.csr0 = rest;
+        return c;
+    }
+    if r == 1 {
+        c.csr1 = 0;
+        return c;
+    }
+    if r == 2 {
+        c.csr2 = 0;
+        return c;
+    }
+    c.csr3 = 0;
+    c
+}

@@ -1,0 +1,23 @@
+// Compares every register number, and the offsets around 10h, 12h and 14h, with a table written from document 01 by hand,
+// and prints how many accesses were compared and how many came out wrong.
+mod accesses;
+mod cards;
+mod offsets;
+mod table;
+mod tally;
+
+// Compares with STOP set and with STOP clear, and prints the tally.
+fn main() {
+    let none = tally::Tally { run: 0, wrong: 0 };
+    let stopped = cards::stopped();
+    let running = cards::running();
+    let t = accesses::run(none, stopped);
+    let t = accesses::run(t, running);
+    let t = offsets::run(t, stopped);
+    let t = offsets::run(t, running);
+    io::write_all(1, b"registers ");
+    io::print_decimal(1, t.run);
+    io::write_all(1, b" wrong ");
+    io::print_decimal(1, t.wrong);
+    io::write_all(1, b"\n");
+}
