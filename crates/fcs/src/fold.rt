@@ -95,7 +95,7 @@ fn over_ones(table: &[u32; 128], bytes: &[u8], from: usize, p: Waiting) -> u32
 }
 
 // The register over forty bytes or more, five words at a time while they can be folded.
-pub fn over_fives(table: &[u32; 128], bytes: &[u8]) -> u32
+pub(crate) fn over_fives(table: &[u32; 128], bytes: &[u8]) -> u32
     requires { ⌜ Steps (now table) ⌝ }
     requires { ⌜ 40 ≤ length (now bytes) ⌝ }
     ensures { λ r. ⌜ r ≡ registerOf (now (bytes .entry)) ⌝ }

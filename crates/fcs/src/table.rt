@@ -5,7 +5,7 @@ ghost use Rattle.fcs.specs.Fcs.{shifts};
 ghost use Rattle.fcs.specs.Steps.{Steps};
 
 // The table: entry 16 k + n is the register n after 4 k + 4 shifts. It is built on the stack, so a caller makes it once and lends it.
-pub fn nibbles() -> [u32; 128]
+pub(crate) fn nibbles() -> [u32; 128]
     ensures { λ r. ⌜ Steps r ⌝ }
 {
     [
@@ -141,7 +141,7 @@ pub fn nibbles() -> [u32; 128]
 }
 
 // The register x after four shifts for each of count rows of the table.
-pub fn shifted(table: &[u32; 128], count: usize, x: u32) -> u32
+pub(crate) fn shifted(table: &[u32; 128], count: usize, x: u32) -> u32
     requires { ⌜ Steps (now table) ⌝ }
     requires { ⌜ count ≤ 8 ⌝ }
     ensures { λ r. ⌜ r ≡ shifts (count * 4) x ⌝ }

@@ -23,7 +23,7 @@ fn pair_at(bytes: &[u8], at: usize) -> u32
 }
 
 // The number that four bytes from a place on stand for.
-pub fn word_at(bytes: &[u8], at: usize) -> u32
+pub(crate) fn word_at(bytes: &[u8], at: usize) -> u32
     requires { ⌜ at + 4 ≤ length (now bytes) ⌝ }
     ensures { λ r. ⌜ r ≡ little (take 4 (drop at (now (bytes .entry)))) ⌝ }
 {
@@ -31,7 +31,7 @@ pub fn word_at(bytes: &[u8], at: usize) -> u32
 }
 
 // The number that eight bytes from a place on stand for.
-pub fn double_at(bytes: &[u8], at: usize) -> u64
+pub(crate) fn double_at(bytes: &[u8], at: usize) -> u64
     requires { ⌜ at + 8 ≤ length (now bytes) ⌝ }
     ensures { λ r. ⌜ r ≡ little (take 8 (drop at (now (bytes .entry)))) ⌝ }
 {
@@ -54,7 +54,7 @@ fn over_bytes(table: &[u32; 128], bytes: &[u8], from: usize, c: u32) -> u32
 }
 
 // The register c after the bytes from a place on, four at a time, and what is left one by one.
-pub fn over_words(table: &[u32; 128], bytes: &[u8], from: usize, c: u32) -> u32
+pub(crate) fn over_words(table: &[u32; 128], bytes: &[u8], from: usize, c: u32) -> u32
     requires { ⌜ Steps (now table) ⌝ }
     requires { ⌜ from ≤ length (now bytes) ⌝ }
     ensures { λ r. ⌜ r ≡ register c (drop from (now (bytes .entry))) ⌝ }
