@@ -1,26 +1,31 @@
-// Published CRC-32 values. "123456789" is the check value of the CRC catalogues. "The quick brown fox .." is Wikipedia's
-// example. The texts of RFC 1321's MD5 suite are the ones that CRC-32 programs usually publish their values for.
+// Texts with their CRC-32, as other programs' tests print it.
 use crate::tally::Tally;
 use crate::tally::with;
 
 // Each text with its value.
 pub fn run(t: Tally) -> Tally {
-    let t = text(t, b"123456789", 0xCBF43926);
-    let t = text(
-        t,
-        b"The quick brown fox jumps over the lazy dog",
-        0x414FA339,
-    );
-    suite(t)
+    rhash(checks(t))
 }
 
-// The seven texts of RFC 1321's suite, the empty one first.
-fn suite(t: Tally) -> Tally {
+// The check value that catalogues of CRCs give, in libgcrypt 1.10.1, tests/basic.c, and xz 5.4.1, tests/test_check.c; and crc_vec of DPDK
+// 22.11, app/test/test_crc.c.
+fn checks(t: Tally) -> Tally {
+    let t = text(t, b"123456789", 0xCBF43926);
+    text(t, b"0123456789abcdefghijABCDEFGHIJKL", 0xB491AAB4)
+}
+
+// RHash 1.4.6, librhash/test_lib.c, crc32_tests: all eight, the empty one first.
+fn rhash(t: Tally) -> Tally {
     let t = text(t, b"", 0);
     let t = text(t, b"a", 0xE8B7BE43);
     let t = text(t, b"abc", 0x352441C2);
     let t = text(t, b"message digest", 0x20159D7F);
     let t = text(t, b"abcdefghijklmnopqrstuvwxyz", 0x4C2750BD);
+    let t = text(
+        t,
+        b"The quick brown fox jumps over the lazy dog",
+        0x414FA339,
+    );
     let t = text(
         t,
         b"ABCDEFGHIJKLMNOPQRSTUVWXYZabcdefghijklmnopqrstuvwxyz0123456789",
