@@ -1,12 +1,12 @@
 -- What the five entries hand back, on numbers, slices and the block.
 use Prim.Native.Nat.{ℕ, _+_, _*_, _%_}
 use mathlib.Core.Bool.{Bool}
-use mathlib.Core.List.{List, [], _++_}
-use lib.ListN.{length, drop}
+use mathlib.Core.List.{List, []}
+use lib.ListN.{length}
 use lib.Dec.{eqb}
 use Rattle.bus.specs.Choice.{if_then_else_}
 use Rattle.bus.specs.Bits.{put}
-use Rattle.bus.specs.Bus.{Bus, done, Ended, _>>=_}
+use Rattle.bus.specs.Bus.{Bus, done, Ended, filled, _>>=_}
 use Rattle.card.specs.Answers.{Reply}
 use Rattle.card.specs.Acts.{resetting, reading, writing}
 use Rattle.card.specs.Arrival.{arriving}
@@ -70,4 +70,4 @@ pub record Sent : Type 0 where
 -- "A frame handed out fills the outgoing slice from its start; no other byte of it changes."
 unfoldable pub sends : Ended Sending → List ℕ → Sent
 sends e out =
-    record { given = e .answer .given; memory = e .memory; out = e .answer .frame ++ drop (length (e .answer .frame)) out }
+    record { given = e .answer .given; memory = e .memory; out = filled (e .answer .frame) out }

@@ -6,6 +6,7 @@ use denote.Ref.{now}
 use Rattle.bus.proofs.Only.{Only, OnlyWith, equation, ended}
 use Rattle.answers.proofs.Telling.{told-once}
 use Rattle.card.proofs.number.Reads as number
+use Rattle.card.proofs.Card.new.Reads as new
 use Rattle.card.proofs.Card.is_sound.Reads as is-sound
 use Rattle.card.proofs.Card.read.Reads as read
 use Rattle.card.proofs.Card.reset.Reads as reset
@@ -16,6 +17,10 @@ use Rattle.card.proofs.Card.turn.Reads as turn
 -- the number of a refusal
 pub one-number : Only number.Post
 one-number κs a r s e f = equation
+
+-- the card after reset
+pub one-new : Only new.Post
+one-new κs a r s e f = equation
 
 -- whether a state is sound
 pub one-is-sound : Only is-sound.Post

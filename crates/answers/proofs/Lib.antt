@@ -7,3 +7,4 @@ pub mod Transmitting
 pub mod Cards
 pub mod Blocks
 pub mod Entries
+pub mod Tallies

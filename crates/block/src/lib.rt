@@ -7,38 +7,23 @@ ghost use lib.Seq.{sets};
 ghost use Rattle.bus.specs.Bits.{put};
 ghost use Rattle.block.specs.Block.{word, long, stateWords, wordBytes, unused, blockOf, wordAt, csr0Of, ringAt, filterIn, stateIn, holds, opens};
 use card::Card;
+use registers::BABL;
+use registers::CERR;
 use registers::Csr0;
+use registers::IDON;
+use registers::IENA;
+use registers::INIT;
+use registers::MERR;
+use registers::MISS;
+use registers::RINT;
+use registers::RXON;
+use registers::STOP;
+use registers::STRT;
+use registers::TDMD;
+use registers::TINT;
+use registers::TXON;
 use ring::Ring;
 use ring::Slot;
-
-// The bits of CSR0 that the state has.
-const BABL: u16 = 0x4000;
-
-const CERR: u16 = 0x2000;
-
-const MISS: u16 = 0x1000;
-
-const MERR: u16 = 0x0800;
-
-const RINT: u16 = 0x0400;
-
-const TINT: u16 = 0x0200;
-
-const IDON: u16 = 0x0100;
-
-const IENA: u16 = 0x0040;
-
-const RXON: u16 = 0x0020;
-
-const TXON: u16 = 0x0010;
-
-const TDMD: u16 = 0x0008;
-
-const STOP: u16 = 0x0004;
-
-const STRT: u16 = 0x0002;
-
-const INIT: u16 = 0x0001;
 
 // The little-endian word of two bytes.
 fn joined(low: u8, high: u8) -> u16

@@ -1,7 +1,7 @@
 -- Bus programs: what touches memory, as a tree of transfers of one byte each, in their order.
 use Prim.Native.Nat.{ℕ, zero, suc, _+_, _*_}
-use mathlib.Core.List.{List, [], _∷_}
-use lib.ListN.{getD, set}
+use mathlib.Core.List.{List, [], _∷_, _++_}
+use lib.ListN.{length, drop, getD, set}
 
 -- a program that ends with an answer, loads the byte at an address, or stores one there
 pub data Bus (A : Type 0) : Type 0 where
@@ -46,6 +46,10 @@ bytes a (b ∷ bs) = store a b (bytes (suc a) bs)
 unfoldable pub part : List ℕ → ℕ → ℕ → List ℕ
 part m a zero = []
 part m a (suc k) = getD m a 0 ∷ part m (suc a) k
+
+-- a slice that bytes fill from its start: no other byte of it changes
+abbrev pub filled : List ℕ → List ℕ → List ℕ
+filled bs out = bs ++ drop (length bs) out
 
 -- little-endian words from an address on
 unfoldable pub words : ℕ → ℕ → Bus (List ℕ)

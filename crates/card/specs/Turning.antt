@@ -1,12 +1,11 @@
 -- The act "transmit turn".
 use Prim.Native.Nat.{ℕ, _+_}
 use mathlib.Core.Bool.{Bool, not, _&&_, _||_}
-use mathlib.Core.List.{List, [], _++_}
-use lib.ListN.{length, drop}
+use mathlib.Core.List.{List, []}
 use lib.Dec.{eqb, leb}
 use Rattle.bus.specs.Choice.{if_then_else_}
 use Rattle.bus.specs.Bits.{bit, put}
-use Rattle.bus.specs.Bus.{Bus, done, Ended, _>>=_}
+use Rattle.bus.specs.Bus.{Bus, done, Ended, filled, _>>=_}
 use Rattle.ring.specs.declared.Slot.{Slot}
 use Rattle.registers.specs.Bits.{BABL, CERR, MERR, TINT, RXON, TXON, TDMD}
 use Rattle.registers.specs.Csr0.{change}
@@ -97,4 +96,4 @@ pub record Handed : Type 0 where
 -- "A frame handed out fills the outgoing slice from its start; no other byte of it changes."
 unfoldable pub hands : Ended Handing → List ℕ → Handed
 hands e out =
-    record { reply = e .answer .reply; memory = e .memory; out = e .answer .frame ++ drop (length (e .answer .frame)) out }
+    record { reply = e .answer .reply; memory = e .memory; out = filled (e .answer .frame) out }

@@ -13,35 +13,22 @@ ghost use Rattle.card.specs.Acts.{resetting, readAt, reading, writeRegis
 ghost use Rattle.card.specs.Arrival.{receiving, arrived, isOurs, takeIn, arrival, arriving};
 ghost use Rattle.card.specs.Turning.{meant, sending, turned, takeTurn, turnIfOn, turning, hands};
 use receive::Ending;
+use registers::BABL;
+use registers::CERR;
 use registers::Csr0;
+use registers::IDON;
+use registers::INIT;
+use registers::MERR;
+use registers::MISS;
+use registers::RINT;
+use registers::RXON;
+use registers::STOP;
+use registers::TDMD;
+use registers::TINT;
+use registers::TXON;
 use ring::Ring;
 use ring::Slot;
 use transmit::Outcome;
-
-// Bits of CSR0 that the acts change.
-const BABL: u16 = 0x4000;
-
-const CERR: u16 = 0x2000;
-
-const MISS: u16 = 0x1000;
-
-const MERR: u16 = 0x0800;
-
-const RINT: u16 = 0x0400;
-
-const TINT: u16 = 0x0200;
-
-const IDON: u16 = 0x0100;
-
-const RXON: u16 = 0x0020;
-
-const TXON: u16 = 0x0010;
-
-const TDMD: u16 = 0x0008;
-
-const STOP: u16 = 0x0004;
-
-const INIT: u16 = 0x0001;
 
 // Bits of MODE that a turn asks.
 const DRTY: u16 = 0x0020;
@@ -164,7 +151,7 @@ fn block_words(memory: &[u8], at: usize) -> [u16; 12]
 
 impl Card {
     // The card after reset.
-    fn new() -> Card
+    pub fn new() -> Card
         ensures { λ r. ⌜ r ≡ fresh ⌝ }
     {
         Card {

@@ -5,7 +5,6 @@ use card::Answer;
 use card::Card;
 use card::Refusal;
 use card::Told;
-use registers::Csr0;
 use ring::Ring;
 use ring::Slot;
 
@@ -14,21 +13,7 @@ pub const WHOLE: usize = 8192;
 
 // The card after reset.
 pub fn fresh() -> Card {
-    let blank = Card {
-        csr0: Csr0::at_rest(),
-        rap: 0,
-        csr1: 0,
-        csr2: 0,
-        csr3: 0,
-        missed: 0,
-        initialized: false,
-        mode: 0,
-        address: [0; 6],
-        filter: [0; 4],
-        receive: Ring::none(),
-        transmit: Ring::none(),
-    };
-    let told = blank.reset();
+    let told = Card::new().reset();
     told.card
 }
 

@@ -17,9 +17,9 @@ use crate::cards::shows;
 use crate::cards::slots;
 use crate::cards::started;
 use crate::cards::turn;
-use crate::tally::Tally;
-use crate::tally::with;
 use card::Answer;
+use tally::Tally;
+use tally::with;
 
 // Cases 22 to 30.
 pub fn run(t: Tally) -> Tally {

@@ -17,11 +17,11 @@ use crate::cards::started;
 use crate::cards::turn;
 use crate::cards::write;
 use crate::cards::written;
-use crate::tally::Tally;
-use crate::tally::with;
 use card::Answer;
 use card::Card;
 use card::Refusal;
+use tally::Tally;
+use tally::with;
 
 // Cases 14 to 21.
 pub fn run(t: Tally) -> Tally {

@@ -14,9 +14,9 @@ use crate::cards::slots;
 use crate::cards::started;
 use crate::cards::turn;
 use crate::cards::written;
-use crate::tally::Tally;
-use crate::tally::with;
 use card::Answer;
+use tally::Tally;
+use tally::with;
 
 // Cases 35 to 40.
 pub fn run(t: Tally) -> Tally {

@@ -21,10 +21,10 @@ use crate::cards::slots;
 use crate::cards::started;
 use crate::cards::turn;
 use crate::cards::written;
-use crate::tally::Tally;
-use crate::tally::with;
 use card::Answer;
 use card::Card;
+use tally::Tally;
+use tally::with;
 
 // Cases 1 to 13.
 pub fn run(t: Tally) -> Tally {

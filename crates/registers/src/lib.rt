@@ -9,33 +9,33 @@ ghost use Rattle.registers.specs.Map.{known, noRegister, free, onlyReads
 ghost use Rattle.registers.specs.Writing.{ones, started, enabled, demanded, finished};
 
 // The bits of CSR0.
-const BABL: u16 = 0x4000;
+pub const BABL: u16 = 0x4000;
 
-const CERR: u16 = 0x2000;
+pub const CERR: u16 = 0x2000;
 
-const MISS: u16 = 0x1000;
+pub const MISS: u16 = 0x1000;
 
-const MERR: u16 = 0x0800;
+pub const MERR: u16 = 0x0800;
 
-const RINT: u16 = 0x0400;
+pub const RINT: u16 = 0x0400;
 
-const TINT: u16 = 0x0200;
+pub const TINT: u16 = 0x0200;
 
-const IDON: u16 = 0x0100;
+pub const IDON: u16 = 0x0100;
 
-const IENA: u16 = 0x0040;
+pub const IENA: u16 = 0x0040;
 
-const RXON: u16 = 0x0020;
+pub const RXON: u16 = 0x0020;
 
-const TXON: u16 = 0x0010;
+pub const TXON: u16 = 0x0010;
 
-const TDMD: u16 = 0x0008;
+pub const TDMD: u16 = 0x0008;
 
-const STOP: u16 = 0x0004;
+pub const STOP: u16 = 0x0004;
 
-const STRT: u16 = 0x0002;
+pub const STRT: u16 = 0x0002;
 
-const INIT: u16 = 0x0001;
+pub const INIT: u16 = 0x0001;
 
 // MODE's bits that keep the receiver and the transmitter off.
 const DTX: u16 = 0x0002;

@@ -5,9 +5,9 @@ use crate::cards::selected;
 use crate::cards::without;
 use crate::cards::write;
 use crate::table;
-use crate::tally::Tally;
-use crate::tally::with;
 use card::Card;
+use tally::Tally;
+use tally::with;
 
 // All registers.
 pub fn run(t: Tally, c: Card) -> Tally {

@@ -11,26 +11,6 @@ fn block() -> [u8; 40] {
     *b"\0\0\0\0\0\0\0\0\0\0\0\0\0\0\0\0\x40\x00\x02\x60\x8c\x01\x02\x03\x01\x23\x45\x67\x89\xab\xcd\xef\x45\x23\x01\x40\xff\xff\xab\x9f"
 }
 
-// The card after reset.
-fn fresh() -> Card {
-    let blank = Card {
-        csr0: Csr0::at_rest(),
-        rap: 0,
-        csr1: 0,
-        csr2: 0,
-        csr3: 0,
-        missed: 0,
-        initialized: false,
-        mode: 0,
-        address: [0; 6],
-        filter: [0; 4],
-        receive: Ring::none(),
-        transmit: Ring::none(),
-    };
-    let told = blank.reset();
-    told.card
-}
-
 // A card with another CSR behind RDP. RAP keeps the written value modulo 128, so 128 or a multiple more selects the same.
 pub fn selected(c: Card, r: u16) -> Card {
     let told = write(c, 0x12, std::num::wrapping_add_u16(r, 0xFF80));
@@ -51,7 +31,7 @@ fn written(c: Card, r: u16, v: u16) -> Card {
 
 // A card that was initialized (the block's address is odd, and its bit 0 counts as 0) and then stopped.
 pub fn stopped() -> Card {
-    let c = written(fresh(), 1, 0x0011);
+    let c = written(Card::new(), 1, 0x0011);
     let c = written(c, 2, 0x0000);
     let c = written(c, 0, 0x0001);
     written(c, 0, 0x0004)
@@ -119,7 +99,7 @@ pub fn same_card(a: Card, b: Card) -> bool {
 
 // Whether a card is that after reset.
 pub fn is_fresh(c: Card) -> bool {
-    same_card(c, fresh())
+    same_card(c, Card::new())
 }
 
 // A card with one of CSR0 to CSR3 as after reset, so that the others can be compared.

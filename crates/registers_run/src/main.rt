@@ -4,20 +4,15 @@ mod accesses;
 mod cards;
 mod offsets;
 mod table;
-mod tally;
 
 // Compares with STOP set and with STOP clear, and prints the tally.
 fn main() {
-    let none = tally::Tally { run: 0, wrong: 0 };
+    let none = tally::none();
     let stopped = cards::stopped();
     let running = cards::running();
     let t = accesses::run(none, stopped);
     let t = accesses::run(t, running);
     let t = offsets::run(t, stopped);
     let t = offsets::run(t, running);
-    io::write_all(1, b"registers ");
-    io::print_decimal(1, t.run);
-    io::write_all(1, b" wrong ");
-    io::print_decimal(1, t.wrong);
-    io::write_all(1, b"\n");
+    tally::tell(b"registers", t);
 }

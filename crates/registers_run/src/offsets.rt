@@ -4,9 +4,9 @@ use crate::cards::is_fresh;
 use crate::cards::same_card;
 use crate::cards::selected;
 use crate::cards::write;
-use crate::tally::Tally;
-use crate::tally::with;
 use card::Card;
+use tally::Tally;
+use tally::with;
 
 // The offsets around the three, then others, with CSR88 behind RDP.
 pub fn run(t: Tally, c: Card) -> Tally {

@@ -7,7 +7,7 @@ use native.Mathlib.Omega.{arith}
 use lib.ListN.{length, getD, set, take, drop}
 use lib.Seq.{sets, sets-eq, take-append-seam}
 use Rattle.fcs.specs.Fcs.{fcsOf}
-use Rattle.bus.specs.Bus.{part}
+use Rattle.bus.specs.Bus.{part, filled}
 use Rattle.transmit.specs.Written.{written}
 use Rattle.transmit.specs.Turn.{fcsBytes}
 
@@ -40,7 +40,7 @@ written-more (x ∷ xs) ys out at =
     ∙ written-more xs ys (set out at x) (suc at)
 
 -- a write at the start
-pub written-front : (f out : List ℕ) → length f ≤ length out → written out 0 f ≡ f ++ drop (length f) out
+pub written-front : (f out : List ℕ) → length f ≤ length out → written out 0 f ≡ filled f out
 unfolding written
 written-front f out h =
     let e : 0 + length f ≡ length f = zero-add (length f) in

@@ -2,11 +2,11 @@
 use Prim.Native.Nat.{ℕ, zero, suc, _+_, _-_, _/_, _%_}
 use mathlib.Core.Bool.{Bool, _||_}
 use mathlib.Core.List.{List, [], _∷_, _++_}
-use lib.ListN.{length, drop}
+use lib.ListN.{length}
 use Rattle.fcs.specs.Fcs.{fcsOf}
 use Rattle.bus.specs.Choice.{if_then_else_}
 use Rattle.bus.specs.Bits.{bit}
-use Rattle.bus.specs.Bus.{Bus, done, load, store, reads, bytes, Ended, _>>=_, _>>_}
+use Rattle.bus.specs.Bus.{Bus, done, load, store, reads, bytes, filled, Ended, _>>=_, _>>_}
 use Rattle.ring.specs.declared.Slot.{Slot}
 use Rattle.ring.specs.Ring.{nextOf, placeOf}
 use Rattle.ring.specs.Descriptor.{described}
@@ -108,4 +108,4 @@ pub record Left : Type 0 where
 -- "A frame handed out fills the outgoing slice from its start; no other byte of it changes."
 unfoldable pub leaves : Ended Turn → List ℕ → Left
 leaves e out =
-    record { turned = e .answer .turned; memory = e .memory; out = e .answer .frame ++ drop (length (e .answer .frame)) out }
+    record { turned = e .answer .turned; memory = e .memory; out = filled (e .answer .frame) out }

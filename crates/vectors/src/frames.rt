@@ -1,6 +1,6 @@
 // Frames whose FCS is published: captured ones, which end in it, low byte first, and the long patterns of a test.
-use crate::tally::Tally;
-use crate::tally::with;
+use tally::Tally;
+use tally::with;
 
 // All frames.
 pub fn run(t: Tally) -> Tally {

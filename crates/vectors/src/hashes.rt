@@ -1,6 +1,6 @@
 // Group addresses with the filter bit that they select.
-use crate::tally::Tally;
-use crate::tally::with;
+use tally::Tally;
+use tally::with;
 
 // What drivers say, then the table of the LANCE.
 pub fn run(t: Tally) -> Tally {

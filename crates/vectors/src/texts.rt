@@ -1,6 +1,6 @@
 // Texts with their CRC-32, as other programs' tests print it.
-use crate::tally::Tally;
-use crate::tally::with;
+use tally::Tally;
+use tally::with;
 
 // Each text with its value.
 pub fn run(t: Tally) -> Tally {
