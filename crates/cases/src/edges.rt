@@ -46,12 +46,12 @@ fn bytes_63() -> bool {
     shows(told, Answer::Runt, 0x0073, false) & same_card(after, c) & same(&m, &kept)
 }
 
-// 23: 64 bytes are no runt, and "FF-FF-FF-FF-FF-FF passes if bit 14 (DRCVBC) is clear". The frame is a published one, with its published FCS.
+// 23: 64 bytes are no runt, and "FF-FF-FF-FF-FF-FF passes if bit 14 (DRCVBC) is clear". The frame is spelled out with its FCS, which zlib gives too.
 fn bytes_64() -> bool {
     let mut m = [0u8; 8192];
     let c = started(&mut m, 0, 0x2000, 0);
     descriptor(&mut m, 0x40, 0x100, 0x80, minus(200));
-    let f = published(
+    let f = spelled(
         b"\xff\xff\xff\xff\xff\xff\x00\x00\x00\x04\x14\x13\x08\x00\x45\x00\x00\x2e\x00\x00\x00\x00\x40\x11\x7a\xc0\x00\x00\x00\x00\xff\xff\xff\xff\x00\x00\x50\xda\x00\x12\x00\x00BBBBBBBBBBBBBBBBBB\x9b\xf6\xd0\xfd",
     );
     let mut wanted = m;
@@ -187,8 +187,8 @@ fn sent(data: u16, length: u16, csr0: u16) -> bool {
         & same(&out, &expected)
 }
 
-// The 64 bytes of a published frame.
-fn published(bytes: &[u8; 64]) -> Bytes {
+// The 64 bytes of a frame that is spelled out.
+fn spelled(bytes: &[u8; 64]) -> Bytes {
     let mut f = [0u8; 8192];
     let mut i = 0;
     while i < 64 {

@@ -1,8 +1,8 @@
 -- The bytes end: there are 64 of them.
 use borrow.Author.Needs.{needs}
 use Prim.Native.Nat.{_≤_, _-_}
-use Rattle.cases.proofs.edges.published.Statement.{statement}
-use Rattle.cases.proofs.edges.published.Tie as tie
+use Rattle.cases.proofs.edges.spelled.Statement.{statement}
+use Rattle.cases.proofs.edges.spelled.Tie as tie
 
 abbrev Inv-loop : tie.InvT-loop
 Inv-loop bytes f₀ i₀ f i = i ≤ 64
@@ -31,8 +31,8 @@ loop-again c = search needs
 returns : tie.Need-returns Inv-loop μ-loop
 returns c = search needs
 
-pub published-spec : {M : Type 1} → statement M
-published-spec =
+pub spelled-spec : {M : Type 1} → statement M
+spelled-spec =
     tie.close
     (tie.spec
     Inv-loop
