@@ -292,6 +292,7 @@ block-holds c =
     holds-of (bodyOf c) (blockOf c) 0
     (λ k l. ap (λ (j : ℕ). getD (blockOf c) j 0) (zero-add k) ∙ List·getD-append (bodyOf c) (long (fcsOf (bodyOf c)) []) 0 k l)
 
+-- the block of a sound state opens
 pub opens-back : (c : Card) → Fits c → sound c ≡ true → opens (blockOf c) ≡ true
 unfolding opens
 opens-back c f s =

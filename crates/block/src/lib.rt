@@ -4,8 +4,8 @@ ghost use mathlib.Core.List.{[]};
 ghost use Prim.Native.Nat.{_+_, _*_, _≤_};
 ghost use lib.ListN.{length};
 ghost use lib.Seq.{sets};
-ghost use Rattle.bus.specs.Bits.{put};
 ghost use Rattle.block.specs.Block.{word, long, stateWords, wordBytes, unused, blockOf, wordAt, csr0Of, ringAt, filterIn, stateIn, holds, opens};
+use bus::weigh;
 use card::Card;
 use registers::BABL;
 use registers::CERR;
@@ -124,13 +124,6 @@ pub fn state_in(block: &[u8]) -> Card
     }
 }
 
-// A bit as a word.
-fn flag(b: bool) -> u16
-    ensures { λ r. ⌜ r ≡ put b 1 ⌝ }
-{
-    if b { 1 } else { 0 }
-}
-
 // Whether the state's 46 bytes say nothing besides the state: CSR0 has its derived bits, and three words only what the state takes.
 fn is_head(block: &[u8], card: Card) -> bool
     requires { ⌜ (46 ≤ length (now block)) × (card ≡ stateIn (now block)) ⌝ }
@@ -138,7 +131,7 @@ fn is_head(block: &[u8], card: Card) -> bool
 {
     let csr0 = card.csr0;
     let control = word_at(block, 0) == csr0.word(card.csr3);
-    let initialized = word_at(block, 12) == flag(card.initialized);
+    let initialized = word_at(block, 12) == weigh(card.initialized, 1);
     control & (block[3] == 0) & (block[7] == 0) & initialized
 }
 
@@ -201,7 +194,7 @@ fn words_of(card: Card) -> [u16; 23]
         card.csr2 as u16,
         card.csr3,
         card.missed,
-        flag(card.initialized),
+        weigh(card.initialized, 1),
         card.mode,
         joined(a[0], a[1]),
         joined(a[2], a[3]),

@@ -3,3 +3,4 @@ pub mod Choices
 pub mod Run
 pub mod Secret
 pub mod Only
+pub mod One

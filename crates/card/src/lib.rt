@@ -12,6 +12,7 @@ ghost use Rattle.card.specs.Initialization.{blockAddress, succeeded, fai
 ghost use Rattle.card.specs.Acts.{resetting, readAt, reading, writeRegister, writeAt, writing};
 ghost use Rattle.card.specs.Arrival.{receiving, arrived, isOurs, takeIn, arrival, arriving};
 ghost use Rattle.card.specs.Turning.{meant, sending, turned, takeTurn, turnIfOn, turning, hands};
+use bus::weigh;
 use receive::Ending;
 use registers::BABL;
 use registers::CERR;
@@ -704,8 +705,8 @@ impl Card {
                 .answer(Answer::Underflow),
             Outcome::Failed => self.send_events(TINT, TDMD, slot).answer(Answer::Failed),
             Outcome::Sent(n) => {
-                let cerr = registers::weigh(quiet, CERR);
-                let babl = registers::weigh(1519 <= n, BABL);
+                let cerr = weigh(quiet, CERR);
+                let babl = weigh(1519 <= n, BABL);
                 self.send_events(TINT + cerr + babl, TDMD, slot)
                     .answer(Answer::Sent(n))
             }

@@ -1,6 +1,5 @@
 -- Each contract of the crate registers leaves one answer.
-use Rattle.bus.proofs.Only.{Only, equation, bounded}
-use Rattle.registers.proofs.weigh.Reads as weigh
+use Rattle.bus.proofs.Only.{Only, equation}
 use Rattle.registers.proofs.Csr0.line.Reads as line
 use Rattle.registers.proofs.Csr0.word.Reads as word
 use Rattle.registers.proofs.Csr0.at_rest.Reads as at-rest
@@ -12,10 +11,6 @@ use Rattle.registers.proofs.is_nowhere.Reads as is-nowhere
 use Rattle.registers.proofs.is_free.Reads as is-free
 use Rattle.registers.proofs.is_only_read.Reads as is-only-read
 use Rattle.registers.proofs.kept_by_csr3.Reads as kept-by-csr3
-
--- a bit's weight, where the bit is set
-pub one-weigh : Only weigh.Post
-one-weigh κs a r s e f = bounded
 
 -- the level of the interrupt line
 pub one-line : Only line.Post

@@ -1,12 +1,12 @@
 // CSR0: its word, the interrupt line, and what an event does to it.
 ghost use mathlib.Core.Path.{_≡_};
 ghost use mathlib.Core.Bool.{_&&_, not};
-ghost use Prim.Native.Nat.{_≤_, _%_};
+ghost use Prim.Native.Nat.{_%_};
 ghost use lib.Dec.{eqb};
-ghost use Rattle.bus.specs.Bits.{put};
 ghost use Rattle.registers.specs.Csr0.{err, intr, lineOf, wordOf, stopped, change, others, soundCsr0};
 ghost use Rattle.registers.specs.Map.{known, noRegister, free, onlyReads, keptByCsr3};
 ghost use Rattle.registers.specs.Writing.{ones, started, enabled, demanded, finished};
+use bus::weigh;
 
 // The bits of CSR0.
 pub const BABL: u16 = 0x4000;
@@ -58,13 +58,6 @@ pub struct Csr0 {
     pub stop: bool,
     pub strt: bool,
     pub init: bool,
-}
-
-// What a bit adds to a word.
-pub fn weigh(b: bool, weight: u16) -> u16
-    ensures { λ r. ⌜ (r ≡ put b weight) × (r ≤ weight) ⌝ }
-{
-    if b { weight } else { 0 }
 }
 
 // Whether a cause reaches INTR: `mask` is odd where it is masked.

@@ -3,13 +3,13 @@ ghost use mathlib.Core.Path.{_≡_};
 ghost use Prim.Native.Nat.{_+_, _≤_, _<_};
 ghost use lib.ListN.{length, take};
 ghost use Rattle.fcs.specs.Fcs.{fcsOf};
-ghost use Rattle.bus.specs.Bits.{put};
 ghost use Rattle.bus.specs.Bus.{run, part};
 ghost use Rattle.ring.specs.Ring.{placeOf};
 ghost use Rattle.chain.specs.Laid.{buffer, buffers, Inside, Laid, Given, Sendable, Ready, Placed};
 ghost use Rattle.transmit.specs.Report.{handsOut, reported, reportedTmd3};
 ghost use Rattle.transmit.specs.Written.{written};
 ghost use Rattle.transmit.specs.Turn.{fcsBytes, withFcs, release, finish, giveBack, send, ending, turn, leaves};
+use bus::weigh;
 use chain::Close;
 use chain::Reach;
 use chain::Start;
@@ -152,13 +152,6 @@ fn give_back(memory: &mut [u8], base: u32, slots: u16, k: u32, slot: Slot, says:
     finish_slot(memory, base, last, says, tmd3);
 }
 
-// What a bit adds to a number.
-fn put_bit(b: bool, weight: u16) -> u16
-    ensures { λ r. ⌜ (r ≡ put b weight) × (r ≤ weight) ⌝ }
-{
-    if b { weight } else { 0 }
-}
-
 // Whether a wire report hands the frame out.
 fn hands_out(report: u8) -> bool
     ensures { λ r. ⌜ r ≡ handsOut report ⌝ }
@@ -170,10 +163,10 @@ fn hands_out(report: u8) -> bool
 fn status_of(report: u8, deferred: bool) -> u8
     ensures { λ r. ⌜ (r ≡ reported report deferred) × (r < 128) ⌝ }
 {
-    let one = put_bit(report == 1, 0x08);
-    let more = put_bit(report == 2, 0x10);
-    let def = put_bit(deferred & hands_out(report), 0x04);
-    let err = put_bit(3 <= report, 0x40);
+    let one = weigh(report == 1, 0x08);
+    let more = weigh(report == 2, 0x10);
+    let def = weigh(deferred & hands_out(report), 0x04);
+    let err = weigh(3 <= report, 0x40);
     (one + more + def + err) as u8
 }
 
@@ -181,9 +174,9 @@ fn status_of(report: u8, deferred: bool) -> u8
 fn tmd3_of(report: u8) -> u16
     ensures { λ r. ⌜ r ≡ reportedTmd3 report ⌝ }
 {
-    let rtry = put_bit(report == 3, 0x0400);
-    let lcol = put_bit(report == 4, 0x1000);
-    let lcar = put_bit(report == 5, 0x0800);
+    let rtry = weigh(report == 3, 0x0400);
+    let lcol = weigh(report == 4, 0x1000);
+    let lcar = weigh(report == 5, 0x0800);
     rtry + lcol + lcar
 }
 

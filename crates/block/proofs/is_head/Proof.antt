@@ -13,8 +13,8 @@ word-requires c κs = search needs
 word-at-requires-2 : tie.Need-word-at-requires-2
 word-at-requires-2 c κs = search needs
 
-flag-requires : tie.Need-flag-requires
-flag-requires c κs = search needs
+weigh-requires : tie.Need-weigh-requires
+weigh-requires c κs = search needs
 
 shared-slice-read-result : tie.Need-shared-slice-read-result
 shared-slice-read-result c = search needs
@@ -32,7 +32,7 @@ is-head-spec =
     word-at-requires
     word-requires
     word-at-requires-2
-    flag-requires
+    weigh-requires
     shared-slice-read-result
     shared-slice-read-result-2
     returns)

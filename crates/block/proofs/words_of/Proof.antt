@@ -14,8 +14,8 @@ cast-t8 c = search needs
 cast-t9 : tie.Need-cast-t9
 cast-t9 c = search needs
 
-flag-requires : tie.Need-flag-requires
-flag-requires c κs = search needs
+weigh-requires : tie.Need-weigh-requires
+weigh-requires c κs = search needs
 
 array-read-joined : tie.Need-array-read-joined
 array-read-joined c = search needs
@@ -79,7 +79,7 @@ words-of-spec =
     word-requires
     cast-t8
     cast-t9
-    flag-requires
+    weigh-requires
     array-read-joined
     array-read-joined-2
     joined-requires

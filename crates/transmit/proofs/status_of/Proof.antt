@@ -5,20 +5,20 @@ use borrow.Author.Needs.{needs}
 use Rattle.transmit.proofs.status_of.Statement.{statement}
 use Rattle.transmit.proofs.status_of.Tie as tie
 
-put-bit-requires : tie.Need-put-bit-requires
-put-bit-requires c κs = search needs
+weigh-requires : tie.Need-weigh-requires
+weigh-requires c κs = search needs
 
-put-bit-requires-2 : tie.Need-put-bit-requires-2
-put-bit-requires-2 c κs = search needs
+weigh-requires-2 : tie.Need-weigh-requires-2
+weigh-requires-2 c κs = search needs
 
 hands-out-requires : tie.Need-hands-out-requires
 hands-out-requires c κs = search needs
 
-put-bit-requires-3 : tie.Need-put-bit-requires-3
-put-bit-requires-3 c κs = search needs
+weigh-requires-3 : tie.Need-weigh-requires-3
+weigh-requires-3 c κs = search needs
 
-put-bit-requires-4 : tie.Need-put-bit-requires-4
-put-bit-requires-4 c κs = search needs
+weigh-requires-4 : tie.Need-weigh-requires-4
+weigh-requires-4 c κs = search needs
 
 add-result : tie.Need-add-result
 add-result c = search needs
@@ -40,11 +40,11 @@ pub status-of-spec : {M : Type 1} → statement M
 status-of-spec =
     tie.close
     (tie.spec
-    put-bit-requires
-    put-bit-requires-2
+    weigh-requires
+    weigh-requires-2
     hands-out-requires
-    put-bit-requires-3
-    put-bit-requires-4
+    weigh-requires-3
+    weigh-requires-4
     add-result
     add-result-2
     add-result-3

@@ -4,14 +4,14 @@ use borrow.Author.Needs.{needs}
 use Rattle.transmit.proofs.tmd3_of.Statement.{statement}
 use Rattle.transmit.proofs.tmd3_of.Tie as tie
 
-put-bit-requires : tie.Need-put-bit-requires
-put-bit-requires c κs = search needs
+weigh-requires : tie.Need-weigh-requires
+weigh-requires c κs = search needs
 
-put-bit-requires-2 : tie.Need-put-bit-requires-2
-put-bit-requires-2 c κs = search needs
+weigh-requires-2 : tie.Need-weigh-requires-2
+weigh-requires-2 c κs = search needs
 
-put-bit-requires-3 : tie.Need-put-bit-requires-3
-put-bit-requires-3 c κs = search needs
+weigh-requires-3 : tie.Need-weigh-requires-3
+weigh-requires-3 c κs = search needs
 
 add-result : tie.Need-add-result
 add-result c = search needs
@@ -27,9 +27,9 @@ pub tmd3-of-spec : {M : Type 1} → statement M
 tmd3-of-spec =
     tie.close
     (tie.spec
-    put-bit-requires
-    put-bit-requires-2
-    put-bit-requires-3
+    weigh-requires
+    weigh-requires-2
+    weigh-requires-3
     add-result
     add-result-2
     returns)

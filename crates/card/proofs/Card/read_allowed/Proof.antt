@@ -23,7 +23,7 @@ answer-requires-2 c κs = search needs
 
 returns-2 : tie.Need-returns-2
 unfolding readAt
-returns-2 c = search (choices, told-done)
+returns-2 c = search choices
 
 register-word-requires : tie.Need-register-word-requires
 register-word-requires c κs = search needs

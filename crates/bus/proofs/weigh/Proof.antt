@@ -1,7 +1,8 @@
+-- `bus::weigh` meets its contract: by the bit.
 use Rattle.bus.specs.Bits.{put}
 use borrow.Author.Needs.{needs}
-use Rattle.registers.proofs.weigh.Statement.{statement}
-use Rattle.registers.proofs.weigh.Tie as tie
+use Rattle.bus.proofs.weigh.Statement.{statement}
+use Rattle.bus.proofs.weigh.Tie as tie
 
 returns : tie.Need-returns
 unfolding put
