@@ -1,7 +1,7 @@
 # What a newcomer runs: `make run` and `make test`. `make help` lists the rest.
 SHELL := bash
 .SHELLFLAGS := -euo pipefail -c
-.PHONY: help run test checks soak bench lib install try tools
+.PHONY: help run test checks soak bench lib install try tools ready
 
 include tools.mk
 
@@ -17,17 +17,17 @@ R = mkdir -p $(dir $(2)) && $(RUSTC) --edition 2021 -O -L native=$(3) -l static=
 help: ## list the targets
 	@sed -n 's/^\([a-z]*\):.*## /make \1	/p' $(firstword $(MAKEFILE_LIST))
 
-run: lib ## stream a sector through the card (FILE=.. for one of your own)
+run: ready lib ## stream a sector through the card (FILE=.. for one of your own)
 	@$(call C,examples/runtime.c,target/examples/runtime)
 	@$(RUN) target/examples/runtime $(FILE)
 
-test: ## the gate: layout, every proof from nothing, must-fail edits, programs, cross-checks
+test: ready ## the gate: layout, every proof from nothing, must-fail edits, programs, cross-checks
 	@rt fmt --check
 	@log=$$(mktemp); status=0; rt ci 2>&1 | tee $$log || status=$$?; mkdir -p target; cat $$log > target/gate.log; rm $$log; exit $$status
 	@$(MAKE) --no-print-directory checks
 	@tail -n 1 target/gate.log | grep -xE '[0-9]+ passed, 0 failed'
 
-checks: lib ## compare the archives with independent programs
+checks: ready lib ## compare the archives with independent programs
 	@rt staticlib fcs_c
 	@$(call R,checks/fcs.rs,target/checks/fcs,target/staticlib,fcs_c)
 	@$(RUN) target/checks/fcs
@@ -49,11 +49,11 @@ checks: lib ## compare the archives with independent programs
 	@$(call R,checks/model.rs,target/checks/model,build,am79c960)
 	@$(RUN) target/checks/model
 
-soak: lib ## the comparison with the second model on 2,000,000 calls, from another seed (SEED=..)
+soak: ready lib ## the comparison with the second model on 2,000,000 calls, from another seed (SEED=..)
 	@$(call R,checks/model.rs,target/checks/model,build,am79c960)
 	@$(RUN) target/checks/model 2000000 $${SEED:-20261115}
 
-bench: lib ## time the FCS beside zlib, a bytewise table and slicing-by-8, and arrivals through the C entries
+bench: ready lib ## time the FCS beside zlib, a bytewise table and slicing-by-8, and arrivals through the C entries
 	@rt staticlib fcs_c
 	@mkdir -p target/bench
 	@zlib=; if echo 'int main(void) { return 0; }' | $(CC) -x c - -lz -o target/bench/zlib 2>/dev/null; then zlib='--cfg zlib -l z'; fi; \
@@ -88,3 +88,8 @@ ifdef DEBIAN
 	  dpkg --add-architecture amd64; apt-get update; \
 	  DEBIAN_FRONTEND=noninteractive apt-get install -y --no-install-recommends $(DEBIAN); }
 endif
+
+# says at once, and not after minutes of proofs, that the tools are missing
+ready:
+	@for tool in rt $(firstword $(CC)) $(firstword $(RUSTC)) $(NM) $(RUN); do command -v $$tool > /dev/null || { \
+	  echo "no $$tool here: the README says what is needed"; exit 1; }; done

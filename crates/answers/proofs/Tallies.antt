@@ -2,6 +2,7 @@
 use Rattle.bus.proofs.Only.{Only, equation}
 use Rattle.tally.proofs.none.Reads as none
 use Rattle.tally.proofs.with.Reads as with-one
+use Rattle.tally.proofs.same.Reads as same
 
 -- the tally before the first
 pub one-none : Only none.Post
@@ -10,3 +11,7 @@ one-none κs a r s e f = equation
 -- the tally with one more
 pub one-with : Only with-one.Post
 one-with κs a r s e f = equation
+
+-- whether two slices have the same bytes
+pub one-same : Only same.Post
+one-same κs a r s e f = equation

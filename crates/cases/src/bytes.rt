@@ -50,14 +50,7 @@ pub fn copy(m: &mut Bytes, at: usize, f: &Bytes, from: usize, n: usize) {
 
 // Whether two arrays have the same bytes.
 pub fn same(a: &Bytes, b: &Bytes) -> bool {
-    let mut i = 0;
-    while i < 8192 {
-        if get(a, i) != get(b, i) {
-            return false;
-        }
-        i += 1;
-    }
-    true
+    tally::same(a, b)
 }
 
 // The last four of `n` bytes become the FCS of what stands before, low byte first.

@@ -200,55 +200,13 @@ pub fn slots(told: Told, receive: u16, transmit: u16) -> bool {
     (c.receive.slot.0 == receive) & (c.transmit.slot.0 == transmit)
 }
 
-// Whether two rings are the same.
-fn same_ring(a: Ring, b: Ring) -> bool {
-    (a.base == b.base) & (a.length == b.length) & (a.slot.0 == b.slot.0)
-}
-
-// Whether two station addresses are the same.
-fn same_address(a: [u8; 6], b: [u8; 6]) -> bool {
-    (a[0] == b[0])
-        & (a[1] == b[1])
-        & (a[2] == b[2])
-        & (a[3] == b[3])
-        & (a[4] == b[4])
-        & (a[5] == b[5])
-}
-
-// Whether two filters are the same.
-fn same_filter(a: [u16; 4], b: [u16; 4]) -> bool {
-    (a[0] == b[0]) & (a[1] == b[1]) & (a[2] == b[2]) & (a[3] == b[3])
-}
-
-// Whether the registers of two cards are the same.
-fn same_registers(a: Card, b: Card) -> bool {
-    let x = a.csr0;
-    let y = b.csr0;
-    (x.word(a.csr3) == y.word(b.csr3))
-        & (a.rap == b.rap)
-        & (a.csr1 == b.csr1)
-        & (a.csr2 == b.csr2)
-        & (a.csr3 == b.csr3)
-        & (a.missed == b.missed)
-        & (a.initialized == b.initialized)
-        & (a.mode == b.mode)
-}
-
-// Whether two cards are the same.
+// Whether two cards are the same: their blocks are.
 pub fn same_card(a: Card, b: Card) -> bool {
-    let aa = a.address;
-    let ba = b.address;
-    let af = a.filter;
-    let bf = b.filter;
-    let ar = a.receive;
-    let br = b.receive;
-    let at = a.transmit;
-    let bt = b.transmit;
-    same_registers(a, b)
-        & same_address(aa, ba)
-        & same_filter(af, bf)
-        & same_ring(ar, br)
-        & same_ring(at, bt)
+    let mut x = [0u8; 512];
+    let mut y = [0u8; 512];
+    block::put_state(&mut x, a);
+    block::put_state(&mut y, b);
+    tally::same(&x, &y)
 }
 
 // Whether a call was refused with a number, the card being kept and the line as expected.

@@ -3,7 +3,6 @@ use card::Answer;
 use card::Card;
 use card::Told;
 use registers::Csr0;
-use ring::Ring;
 
 // The initialization block, and 16 bytes before it: MODE 0040h, address 02-60-8C-01-02-03, LADRF 01-23-45-67-89-AB-CD-EF,
 // receive words 2345h 4001h (base 012340h, 4 slots), transmit words FFFFh 9FABh (base ABFFF8h, 16 slots).
@@ -53,48 +52,13 @@ pub fn answers(told: Told, number: u8, v: u16) -> bool {
     }
 }
 
-// Whether two rings are the same.
-fn same_ring(a: Ring, b: Ring) -> bool {
-    (a.base == b.base) & (a.length == b.length) & (a.slot.0 == b.slot.0)
-}
-
-// Whether what two cards have been initialized with is the same.
-fn same_loaded(a: Card, b: Card) -> bool {
-    let x = a.address;
-    let y = b.address;
-    let f = a.filter;
-    let g = b.filter;
-    (x[0] == y[0])
-        & (x[1] == y[1])
-        & (x[2] == y[2])
-        & (x[3] == y[3])
-        & (x[4] == y[4])
-        & (x[5] == y[5])
-        & (f[0] == g[0])
-        & (f[1] == g[1])
-        & (f[2] == g[2])
-        & (f[3] == g[3])
-}
-
-// Whether two cards are the same.
+// Whether two cards are the same: their blocks are.
 pub fn same_card(a: Card, b: Card) -> bool {
-    let x = a.csr0;
-    let y = b.csr0;
-    let ar = a.receive;
-    let br = b.receive;
-    let at = a.transmit;
-    let bt = b.transmit;
-    (x.word(a.csr3) == y.word(b.csr3))
-        & (a.rap == b.rap)
-        & (a.csr1 == b.csr1)
-        & (a.csr2 == b.csr2)
-        & (a.csr3 == b.csr3)
-        & (a.missed == b.missed)
-        & (a.initialized == b.initialized)
-        & (a.mode == b.mode)
-        & same_loaded(a, b)
-        & same_ring(ar, br)
-        & same_ring(at, bt)
+    let mut x = [0u8; 512];
+    let mut y = [0u8; 512];
+    block::put_state(&mut x, a);
+    block::put_state(&mut y, b);
+    tally::same(&x, &y)
 }
 
 // Whether a card is that after reset.

@@ -1,6 +1,6 @@
-// The tally of a program that compares, and the one line that it prints.
+// The tally of a program that compares, the one line that it prints, and whether bytes are the same.
 ghost use mathlib.Core.Path.{_≡_};
-ghost use Rattle.tally.specs.Counting.{nothing, oneMore};
+ghost use Rattle.tally.specs.Counting.{nothing, oneMore, alike};
 
 // How many things were compared, and how many of them came out wrong.
 pub struct Tally {
@@ -38,4 +38,21 @@ pub fn tell(name: &[u8], t: Tally) {
     io::write_all(1, b" wrong ");
     io::print_decimal(1, t.wrong);
     io::write_all(1, b"\n");
+}
+
+// Whether two slices have the same bytes.
+pub fn same(a: &[u8], b: &[u8]) -> bool
+    ensures { λ r. ⌜ r ≡ alike (now (a .entry)) (now (b .entry)) ⌝ }
+{
+    if a.len() != b.len() {
+        return false;
+    }
+    let mut i = 0;
+    while i < a.len() {
+        if a[i] != b[i] {
+            return false;
+        }
+        i += 1;
+    }
+    true
 }
