@@ -5,6 +5,7 @@ ghost use Prim.Native.Nat.{_+_, _*_, _≤_};
 ghost use lib.ListN.{length};
 ghost use lib.Seq.{sets};
 ghost use Rattle.block.specs.Block.{word, long, stateWords, wordBytes, unused, blockOf, wordAt, csr0Of, ringAt, filterIn, stateIn, holds, opens};
+use bus::joined;
 use bus::weigh;
 use card::Card;
 use registers::BABL;
@@ -24,13 +25,6 @@ use registers::TINT;
 use registers::TXON;
 use ring::Ring;
 use ring::Slot;
-
-// The little-endian word of two bytes.
-fn joined(low: u8, high: u8) -> u16
-    ensures { λ r. ⌜ r ≡ low + 256 * high ⌝ }
-{
-    low as u16 + 256 * (high as u16)
-}
 
 // The word at a place of a block.
 fn word_at(block: &[u8], at: usize) -> u16

@@ -12,6 +12,7 @@ ghost use Rattle.card.specs.Initialization.{blockAddress, succeeded, fai
 ghost use Rattle.card.specs.Acts.{resetting, readAt, reading, writeRegister, writeAt, writing};
 ghost use Rattle.card.specs.Arrival.{receiving, arrived, isOurs, takeIn, arrival, arriving};
 ghost use Rattle.card.specs.Turning.{meant, sending, turned, takeTurn, turnIfOn, turning, hands};
+use bus::joined;
 use bus::weigh;
 use receive::Ending;
 use registers::BABL;
@@ -129,13 +130,6 @@ struct Tried {
     ready: bool,
 }
 
-// The little-endian word of two bytes.
-fn word(low: u8, high: u8) -> u16
-    ensures { λ r. ⌜ r ≡ low + 256 * high ⌝ }
-{
-    low as u16 + 256 * (high as u16)
-}
-
 // The twelve words of the initialization block.
 fn block_words(memory: &[u8], at: usize) -> [u16; 12]
     requires { ⌜ at + 24 ≤ length (now memory) ⌝ }
@@ -144,7 +138,7 @@ fn block_words(memory: &[u8], at: usize) -> [u16; 12]
     let mut words = [0u16; 12];
     let mut i = 0;
     while i < 12 {
-        words[i] = word(memory[at + 2 * i], memory[at + 2 * i + 1]);
+        words[i] = joined(memory[at + 2 * i], memory[at + 2 * i + 1]);
         i += 1;
     }
     words
@@ -260,7 +254,7 @@ impl Card {
         }
         if k < 15 {
             let address = self.address;
-            return word(address[2 * (k - 12)], address[2 * (k - 12) + 1]);
+            return joined(address[2 * (k - 12)], address[2 * (k - 12) + 1]);
         }
         self.mode
     }

@@ -13,29 +13,29 @@ abbrev μ-loop : tie.MeasureT-loop
 loop-holds : tie.Need-loop-holds Inv-loop μ-loop
 loop-holds c = search needs
 
-mul-word : tie.Need-mul-word Inv-loop μ-loop
-mul-word c = search needs
+mul-joined : tie.Need-mul-joined Inv-loop μ-loop
+mul-joined c = search needs
 
-add-word : tie.Need-add-word Inv-loop μ-loop
-add-word c = search needs
+add-joined : tie.Need-add-joined Inv-loop μ-loop
+add-joined c = search needs
 
-shared-slice-read-word : tie.Need-shared-slice-read-word Inv-loop μ-loop
-shared-slice-read-word c = search needs
+shared-slice-read-joined : tie.Need-shared-slice-read-joined Inv-loop μ-loop
+shared-slice-read-joined c = search needs
 
-mul-word-2 : tie.Need-mul-word-2 Inv-loop μ-loop
-mul-word-2 c = search needs
+mul-joined-2 : tie.Need-mul-joined-2 Inv-loop μ-loop
+mul-joined-2 c = search needs
 
-add-word-2 : tie.Need-add-word-2 Inv-loop μ-loop
-add-word-2 c = search needs
+add-joined-2 : tie.Need-add-joined-2 Inv-loop μ-loop
+add-joined-2 c = search needs
 
-add-word-3 : tie.Need-add-word-3 Inv-loop μ-loop
-add-word-3 c = search needs
+add-joined-3 : tie.Need-add-joined-3 Inv-loop μ-loop
+add-joined-3 c = search needs
 
-shared-slice-read-word-2 : tie.Need-shared-slice-read-word-2 Inv-loop μ-loop
-shared-slice-read-word-2 c = search needs
+shared-slice-read-joined-2 : tie.Need-shared-slice-read-joined-2 Inv-loop μ-loop
+shared-slice-read-joined-2 c = search needs
 
-word-requires : tie.Need-word-requires Inv-loop μ-loop
-word-requires c κs = search needs
+joined-requires : tie.Need-joined-requires Inv-loop μ-loop
+joined-requires c κs = search needs
 
 mul-words : tie.Need-mul-words Inv-loop μ-loop
 mul-words c = search needs
@@ -62,14 +62,14 @@ block-words-spec =
     Inv-loop
     μ-loop
     loop-holds
-    mul-word
-    add-word
-    shared-slice-read-word
-    mul-word-2
-    add-word-2
-    add-word-3
-    shared-slice-read-word-2
-    word-requires
+    mul-joined
+    add-joined
+    shared-slice-read-joined
+    mul-joined-2
+    add-joined-2
+    add-joined-3
+    shared-slice-read-joined-2
+    joined-requires
     mul-words
     array-write-words
     add-i

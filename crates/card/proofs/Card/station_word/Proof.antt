@@ -17,23 +17,23 @@ returns : tie.Need-returns
 unfolding stationWord
 returns c = search choices
 
-mul-word : tie.Need-mul-word
-mul-word c = search needs
+mul-joined : tie.Need-mul-joined
+mul-joined c = search needs
 
-array-read-word : tie.Need-array-read-word
-array-read-word c = search needs
+array-read-joined : tie.Need-array-read-joined
+array-read-joined c = search needs
 
-mul-word-2 : tie.Need-mul-word-2
-mul-word-2 c = search needs
+mul-joined-2 : tie.Need-mul-joined-2
+mul-joined-2 c = search needs
 
-add-word : tie.Need-add-word
-add-word c = search needs
+add-joined : tie.Need-add-joined
+add-joined c = search needs
 
-array-read-word-2 : tie.Need-array-read-word-2
-array-read-word-2 c = search needs
+array-read-joined-2 : tie.Need-array-read-joined-2
+array-read-joined-2 c = search needs
 
-word-requires : tie.Need-word-requires
-word-requires c κs = search needs
+joined-requires : tie.Need-joined-requires
+joined-requires c κs = search needs
 
 returns-2 : tie.Need-returns-2
 unfolding stationWord
@@ -51,11 +51,11 @@ station-word-spec =
     mul-result
     array-read-result
     returns
-    mul-word
-    array-read-word
-    mul-word-2
-    add-word
-    array-read-word-2
-    word-requires
+    mul-joined
+    array-read-joined
+    mul-joined-2
+    add-joined
+    array-read-joined-2
+    joined-requires
     returns-2
     returns-3)
