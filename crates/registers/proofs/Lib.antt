@@ -1,2 +1,3 @@
 -- What is proved of this crate's contracts.
+pub mod Words
 pub mod One

@@ -17,7 +17,7 @@ is-hashed-requires c κs = search needs
 
 returns : tie.Need-returns
 unfolding group
-returns c = cc
+returns c = rw (c .is-hashed .ensures, c .before .hash-of .ensures .0, c .before .before .before .is-broadcast .ensures)
 
 pub takes-group-spec : {M : Type 1} → statement M
 takes-group-spec =

@@ -8,7 +8,7 @@ are-same-requires c κs = search needs
 
 returns : tie.Need-returns
 unfolding station
-returns c = cc
+returns c = rw (c .are-same .ensures)
 
 pub takes-station-spec : {M : Type 1} → statement M
 takes-station-spec = tie.close (tie.spec are-same-requires returns)

@@ -34,7 +34,7 @@ cast-result c = search needs
 
 returns : tie.Need-returns
 unfolding reported
-returns c = (cc, omega arith)
+returns c = (rw (c .weigh4 .ensures .0, c .before .weigh3 .ensures .0, c .before .before .hands-out .ensures, c .before .before .before .weigh2 .ensures .0, c .before .before .before .before .weigh .ensures .0), omega arith)
 
 pub status-of-spec : {M : Type 1} → statement M
 status-of-spec =

@@ -14,7 +14,7 @@ none-requires-2 c κs = search needs
 
 returns : tie.Need-returns
 unfolding fresh
-returns c = cc
+returns c = rw (c .none2 .ensures, c .before .none .ensures, c .before .before .at-rest .ensures)
 
 pub new-spec : {M : Type 1} → statement M
 new-spec = tie.close (tie.spec at-rest-requires none-requires none-requires-2 returns)

@@ -11,7 +11,7 @@ changed-requires c κs = search needs
 
 returns : tie.Need-returns
 unfolding demanded
-returns c = cc
+returns c = rw (c .changed .ensures, c .before .weigh .ensures .0)
 
 pub demand-spec : {M : Type 1} → statement M
 demand-spec = tie.close (tie.spec weigh-requires changed-requires returns)

@@ -11,7 +11,7 @@ changed-requires c κs = search needs
 
 returns : tie.Need-returns
 unfolding enabled
-returns c = cc
+returns c = rw (c .changed .ensures, c .before .weigh .ensures .0)
 
 pub enable-spec : {M : Type 1} → statement M
 enable-spec = tie.close (tie.spec weigh-requires changed-requires returns)

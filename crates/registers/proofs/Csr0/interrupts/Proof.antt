@@ -23,7 +23,7 @@ heard-requires-6 c κs = search needs
 
 returns : tie.Need-returns
 unfolding intr lets
-returns c = cc
+returns c = rw (c .heard6 .ensures, c .before .heard5 .ensures, c .before .before .heard4 .ensures, c .before .before .before .heard3 .ensures, c .before .before .before .before .heard2 .ensures, c .before .before .before .before .before .heard .ensures)
 
 pub interrupts-spec : {M : Type 1} → statement M
 interrupts-spec =

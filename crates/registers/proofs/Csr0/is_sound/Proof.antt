@@ -8,7 +8,7 @@ busy-requires c κs = search needs
 
 returns : tie.Need-returns
 unfolding soundCsr0
-returns c = cc
+returns c = rw (c .before .before .before .before .before .before .busy .ensures)
 
 pub is-sound-spec : {M : Type 1} → statement M
 is-sound-spec = tie.close (tie.spec busy-requires returns)

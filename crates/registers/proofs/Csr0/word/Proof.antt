@@ -1,5 +1,5 @@
-use Rattle.registers.specs.Csr0.{wordOf}
 use borrow.Author.Needs.{needs}
+use Rattle.registers.proofs.Words.{sixteen-bits}
 use Rattle.registers.proofs.Csr0.word.Statement.{statement}
 use Rattle.registers.proofs.Csr0.word.Tie as tie
 
@@ -103,8 +103,7 @@ add-result-15 : tie.Need-add-result-15
 add-result-15 c = search needs
 
 returns : tie.Need-returns
-unfolding wordOf
-returns c = cc
+returns c = search sixteen-bits
 
 pub word-spec : {M : Type 1} → statement M
 word-spec =

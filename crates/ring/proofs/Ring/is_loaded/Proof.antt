@@ -11,7 +11,7 @@ mul-result c = search needs
 
 returns : tie.Need-returns
 unfolding loaded keptByBase
-returns c = cc
+returns c = rw (c .before .before .before .is-length .ensures)
 
 pub is-loaded-spec : {M : Type 1} → statement M
 is-loaded-spec = tie.close (tie.spec is-length-requires mul-result returns)
