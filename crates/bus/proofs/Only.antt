@@ -2,7 +2,7 @@
 use mathlib.Core.Path.{_≡_, sym, _∙_, ap}
 use mathlib.Core.List.{List}
 use Prim.Native.Nat.{ℕ}
-use Rattle.bus.specs.Bus.{Ended}
+use Rattle.bus.specs.Bus.{Ended, Left}
 
 -- a contract speaks of lifetimes, arguments, the answer and the parameters at exit
 module _ {K : Type 0} {A R E : K → Type 0} where
@@ -25,3 +25,8 @@ bounded p q = equation (p .0) (q .0)
 -- what a program comes to leaves one answer and one memory
 pub ended : {A : Type 0} {x : Ended A} {r s : A} {m n : List ℕ} → x ≡ record { answer = r; memory = m } → x ≡ record { answer = s; memory = n } → (r ≡ s) × (m ≡ n)
 ended p q = (ap (λ t. t .answer) (sym p ∙ q), ap (λ t. t .memory) (sym p ∙ q))
+
+-- .. and what it leaves, the outgoing slice too
+pub left : {A : Type 0} {x : Left A} {r s : A} {m n o p : List ℕ} → x ≡ record { answer = r; memory = m; out = o } → x ≡ record { answer = s; memory = n; out = p }
+    → (r ≡ s) × (_≡_ {A = List ℕ × List ℕ} (m, o) (n, p))
+left p q = (ap (λ t. t .answer) (sym p ∙ q), ap (λ t. (t .memory, t .out)) (sym p ∙ q))

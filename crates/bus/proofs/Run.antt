@@ -2,15 +2,13 @@
 use mathlib.Core.Path.{_≡_, refl, sym, ap, _∙_}
 use mathlib.Core.List.{List, [], _∷_}
 use mathlib.Core.Bool.{Bool, true, false}
-use Prim.Native.Nat.{ℕ, zero, suc, _+_, _*_, _≤_, _<_}
-use native.Mathlib.Nat.{add-suc, suc-add, add-zero, not-suc-le-zero, le-of-suc-le-suc}
-use native.Mathlib.Omega.{arith}
+use Prim.Native.Nat.{ℕ, zero, suc, _≤_, _<_}
 use lib.Dec.{eqb, ltb}
 use borrow.Author.Tests.{lt-ltb, le-ltb, eq-eqb, ne-eqb}
-use lib.ListN.{length, length-set, getD, set, take, drop}
-use lib.Seq.{sets, drop-cons}
+use lib.ListN.{length, length-set, getD, set}
 use Rattle.bus.specs.Choice.{if_then_else_}
-use Rattle.bus.specs.Bus.{Bus, done, load, store, Ended, run, _>>=_, reads, bytes, part, words, wordsAt}
+use Rattle.bus.specs.Words.{joined, part, wordsAt, overwritten}
+use Rattle.bus.specs.Bus.{Bus, done, load, store, Ended, run, _>>=_, reads, bytes, words}
 
 -- a program that is done
 pub run-done : {A : Type 0} (a : A) (m : List ℕ) → run (done a) m ≡ record { answer = a; memory = m }
@@ -81,8 +79,8 @@ run-reads a (suc k) m =
     after (reads (suc a) k) (λ bs. done (getD m a 0 ∷ bs)) m m (part m (suc a) k) (run-reads (suc a) k m)
 
 -- storing leaves the bytes in their places
-pub run-bytes : (a : ℕ) (bs m : List ℕ) → run (bytes a bs) m ≡ record { answer = tt; memory = sets m a bs }
-unfolding run bytes
+pub run-bytes : (a : ℕ) (bs m : List ℕ) → run (bytes a bs) m ≡ record { answer = tt; memory = overwritten m a bs }
+unfolding run bytes overwritten
 run-bytes a [] m = refl
 run-bytes a (b ∷ bs) m = run-bytes (suc a) bs (set m a b)
 
@@ -91,47 +89,8 @@ pub run-words : (k a : ℕ) (m : List ℕ) → run (words a k) m ≡ record { an
 unfolding run words wordsAt _>>=_
 run-words zero a m = refl
 run-words (suc k) a m =
-    after (words (suc (suc a)) k) (λ ws. done ((getD m a 0 + 256 * getD m (suc a) 0) ∷ ws)) m m (wordsAt m (suc (suc a)) k)
+    after (words (suc (suc a)) k) (λ ws. done (joined (getD m a 0) (getD m (suc a) 0) ∷ ws)) m m (wordsAt m (suc (suc a)) k)
     (run-words k (suc (suc a)) m)
-
--- the bytes from an address on, where all are inside
-pub part-is : (k a : ℕ) (m : List ℕ) → a + k ≤ length m → part m a k ≡ take k (drop a m)
-unfolding part
-part-is zero a m h = refl
-part-is (suc k) a m h =
-    let e : suc a + k ≤ length m = omega (arith, add-suc a k) in
-    let i : a < length m = omega arith in
-    ap (λ (r : List ℕ). getD m a 0 ∷ r) (part-is k (suc a) m e) ∙ sym (ap (take (suc k)) (drop-cons m a 0 i))
-
--- one of the words from an address on
-pub getD-words : (k i a : ℕ) (m : List ℕ) → i < k → getD (wordsAt m a k) i 0 ≡ getD m (a + 2 * i) 0 + 256 * getD m (suc (a + 2 * i)) 0
-unfolding wordsAt
-getD-words zero i a m h = absurd (not-suc-le-zero h)
-getD-words (suc k) zero a m h = let e : a + 2 * 0 ≡ a = omega arith in rw e
-getD-words (suc k) (suc i) a m h =
-    let e : a + 2 * suc i ≡ suc (suc a) + 2 * i = omega arith in
-    rw e (getD-words k i (suc (suc a)) m (le-of-suc-le-suc h))
-
--- the number of words
-pub length-words : (k a : ℕ) (m : List ℕ) → length (wordsAt m a k) ≡ k
-unfolding wordsAt
-length-words zero a m = refl
-length-words (suc k) a m = ap suc (length-words k (suc (suc a)) m)
-
--- one of the bytes from an address on
-pub getD-part : (k i a : ℕ) (m : List ℕ) → i < k → getD (part m a k) i 0 ≡ getD m (a + i) 0
-unfolding part
-getD-part zero i a m h = absurd (not-suc-le-zero h)
-getD-part (suc k) zero a m h = ap (λ (j : ℕ). getD m j 0) (sym (add-zero a))
-getD-part (suc k) (suc i) a m h =
-    getD-part k i (suc a) m (le-of-suc-le-suc h)
-    ∙ ap (λ (j : ℕ). getD m j 0) (suc-add a i ∙ sym (add-suc a i))
-
--- the number of bytes
-pub length-part : (k a : ℕ) (m : List ℕ) → length (part m a k) ≡ k
-unfolding part
-length-part zero a m = refl
-length-part (suc k) a m = ap suc (length-part k (suc a) m)
 
 -- storing one byte, then those after it
 pub run-byte : (a b : ℕ) (bs m : List ℕ) → run (bytes a (b ∷ bs)) m ≡ run (bytes (suc a) bs) (set m a b)

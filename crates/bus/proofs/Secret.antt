@@ -1,16 +1,15 @@
--- A program whose loads are at known addresses tells nothing of the others.
-use Prim.Native.Nat.{ℕ, zero, suc, _+_, _*_, _<_, suc-le-suc}
-use native.Mathlib.Nat.{suc-add, add-suc, add-zero, zero-lt-suc}
+-- What follows of a program that keeps within bounds: what its answer meets, what stays of memory, and that it tells nothing else.
+use Prim.Native.Nat.{ℕ, zero, suc}
 use native.Mathlib.Decide.{ℕ-discrete}
-use native.Mathlib.Numerals.{add-one}
 use native.Mathlib.Omega.{arith}
-use mathlib.Core.Path.{_≡_, refl, sym, subst, _∙_}
+use mathlib.Core.Path.{_≡_, refl, sym, ap, subst, _∙_}
 use mathlib.Core.Logic.{_⊎_, inl, inr, ⊎-elim}
 use mathlib.Core.List.{List, [], _∷_}
 use lib.ListN.{length, getD, set, length-set}
 use lib.Seq.{getD-set-other}
-use Rattle.bus.specs.Bus.{Bus, done, load, store, Ended, run, _>>=_, reads, words, bytes}
-use Rattle.bus.specs.Secrecy.{Agree, Apart, Loads}
+use Rattle.bus.specs.Bus.{Bus, done, load, store, Ended, run}
+use Rattle.bus.specs.Within.{Keeps, Within}
+use Rattle.bus.specs.Secrecy.{Agree, Apart, addresses, Secret}
 
 -- a store leaves the same byte in two memories of one length
 stored : (m₁ m₂ : List ℕ) (a b : ℕ) → length m₁ ≡ length m₂ → getD (set m₁ a b) a 0 ≡ getD (set m₂ a b) a 0
@@ -42,68 +41,74 @@ apart-set s₁ s₂ m₁ m₂ a b l k x = go (ℕ-discrete x a)
     go (yes e) = inl (subst (λ (y : ℕ). getD (set m₁ a b) y 0 ≡ getD (set m₂ a b) y 0) (sym e) (stored m₁ m₂ a b l))
     go (no n) = rw (getD-set-other m₁ a x b 0 n, getD-set-other m₂ a x b 0 n) (k x)
 
--- what a program leaves of two memories: the same answer, and bytes that are equal in both or as they were
-pub record Secret {A : Type 0} (s₁ s₂ : List ℕ) (e₁ e₂ : Ended A) : Type 0 where
-  pub answers : e₁ .answer ≡ e₂ .answer
-  pub bytes : Apart s₁ s₂ (e₁ .memory) (e₂ .memory)
+module _ (L : List ℕ → ℕ → Type 0) (S : List ℕ → ℕ → ℕ → Type 0) where
+  -- the answer, and the memory then
+  ended : {A : Type 0} (E : List ℕ → A → Type 0) (b : ℕ → Type 0) (s : ℕ → ℕ → Type 0) (p : Bus A) (m : List ℕ) → Keeps L S E b s p m
+      → E (run p m .memory) (run p m .answer)
+  unfolding Keeps run
+  ended E b s (done a) m h = h
+  ended E b s (load a k) m h = ended E b s (k (getD m a 0)) m (h .1)
+  ended E b s (store a x p) m h = ended E _ _ p (set m a x) (h .1)
 
-along : {A : Type 0} (s₁ s₂ : List ℕ) (Q : ℕ → Type 0) (p : Bus A) (m₁ m₂ : List ℕ) → Loads Q p m₁ → Agree Q m₁ m₂
-    → Apart s₁ s₂ m₁ m₂ → Secret s₁ s₂ (run p m₁) (run p m₂)
-unfolding run Loads
-along s₁ s₂ Q (done a) m₁ m₂ l g k = record { answers = refl; bytes = k }
-along s₁ s₂ Q (load a f) m₁ m₂ l g k =
-    rw (← g .same a (l .0)) (along s₁ s₂ Q (f (getD m₁ a 0)) m₁ m₂ (l .1) g k)
-along s₁ s₂ Q (store a b p) m₁ m₂ l g k =
-    along s₁ s₂ (λ x. (x ≡ a) ⊎ Q x) p (set m₁ a b) (set m₂ a b) l (agree-set Q m₁ m₂ a b g) (apart-set s₁ s₂ m₁ m₂ a b (g .lengths) k)
+  pub within-ends : {A : Type 0} (E : List ℕ → A → Type 0) (p : Bus A) (m : List ℕ) → Within L S E p m → E (run p m .memory) (run p m .answer)
+  within-ends E p m = ended E _ _ p m
 
--- a program that loads only at addresses of Q, on two memories that agree there
-pub secret : {A : Type 0} (Q : ℕ → Type 0) (p : Bus A) (m₁ m₂ : List ℕ) → Loads Q p m₁ → Agree Q m₁ m₂
-    → Secret m₁ m₂ (run p m₁) (run p m₂)
-secret Q p m₁ m₂ l g = along m₁ m₂ Q p m₁ m₂ l g (λ a. inr (refl, refl))
+  -- where I holds of a memory at the start, and each store that is allowed keeps it so
+  module _ (I : List ℕ → Type 0) (holds : (m m′ : List ℕ) (a b : ℕ) → I m → S m a b → I m′ → I (set m′ a b)) where
+    -- "what is not in S stays"
+    module _ (T : ℕ → Type 0) (within : (m : List ℕ) (a b : ℕ) → I m → S m a b → T a) where
+      elsewhere : {A : Type 0} (E : List ℕ → A → Type 0) (b : ℕ → Type 0) (s : ℕ → ℕ → Type 0) (p : Bus A) (m : List ℕ)
+          → ((x y : ℕ) → s x y → T x × ((m : List ℕ) → I m → I (set m x y))) → I m → Keeps L S E b s p m
+          → (x : ℕ) → (T x → ⊥) → getD (run p m .memory) x 0 ≡ getD m x 0
+      unfolding Keeps run
+      elsewhere E b s (done a) m f i h x n = refl
+      elsewhere E b s (load a k) m f i h x n = elsewhere E b s (k (getD m a 0)) m f i (h .1) x n
+      elsewhere E b s (store a v p) m f i h x n =
+          let may : T a × ((m : List ℕ) → I m → I (set m a v)) =
+          ⊎-elim (λ (q : s a v). f a v q) (λ (q : S m a v). (within m a v i q, λ m′ j. holds m m′ a v i q j)) (h .0) in
+          elsewhere E _ _ p (set m a v)
+          (λ y w. ⊎-elim (λ (q : s y w). f y w q) (λ (q : S m y w). (within m y w i q, λ m′ j. holds m m′ y w i q j))) (may .1 m i) (h .1) x n
+          ∙ getD-set-other m a x v 0 (λ e. n (subst T (sym e) (may .0)))
 
--- more addresses do no harm
-pub loads-more : {A : Type 0} (Q R : ℕ → Type 0) (p : Bus A) (m : List ℕ) → ((a : ℕ) → Q a → R a) → Loads Q p m → Loads R p m
-unfolding Loads
-loads-more Q R (done a) m h l = l
-loads-more Q R (load a f) m h l = (h a (l .0), loads-more Q R (f (getD m a 0)) m h (l .1))
-loads-more Q R (store a b p) m h l =
-    loads-more (λ x. (x ≡ a) ⊎ Q x) (λ x. (x ≡ a) ⊎ R x) p (set m a b) (λ x. ⊎-elim (λ e. inl e) (λ q. inr (h x q))) l
+      pub stays : {A : Type 0} (E : List ℕ → A → Type 0) (p : Bus A) (m : List ℕ) → I m → Within L S E p m
+          → (x : ℕ) → (T x → ⊥) → getD (run p m .memory) x 0 ≡ getD m x 0
+      stays E p m = elsewhere E _ _ p m (λ x y. absurd)
 
--- a program after another
-pub loads-then : {A B : Type 0} (Q : ℕ → Type 0) (p : Bus A) (k : A → Bus B) (m : List ℕ) → Loads Q p m
-    → Loads Q (k (run p m .answer)) (run p m .memory) → Loads Q (p >>= k) m
-unfolding Loads run _>>=_
-loads-then Q (done a) k m l h = h
-loads-then Q (load a f) k m l h = (l .0, loads-then Q (f (getD m a 0)) k m (l .1) h)
-loads-then Q (store a b p) k m l h =
-    loads-then (λ x. (x ≡ a) ⊎ Q x) p k (set m a b) l
-    (loads-more Q (λ x. (x ≡ a) ⊎ Q x) (k (run p (set m a b) .answer)) (run p (set m a b) .memory) (λ x q. inr q) h)
+    -- demand 3 of a program: on two memories that agree on Q, where only addresses of Q may be loaded
+    module _ (Q : ℕ → Type 0) (within : (m : List ℕ) (a : ℕ) → I m → L m a → Q a) where
+      -- what it leaves of memories that began as s₁ and s₂
+      record Told {A : Type 0} (s₁ s₂ : List ℕ) (p : Bus A) (m₁ m₂ : List ℕ) : Type 0 where
+        answers : run p m₁ .answer ≡ run p m₂ .answer
+        transfers : addresses p m₁ ≡ addresses p m₂
+        bytes : Apart s₁ s₂ (run p m₁ .memory) (run p m₂ .memory)
 
--- reading loads just the bytes from an address on
-pub loads-reads : (Q : ℕ → Type 0) (a k : ℕ) (m : List ℕ) → ((i : ℕ) → i < k → Q (a + i)) → Loads Q (reads a k) m
-unfolding Loads reads
-loads-reads Q a zero m h = tt
-loads-reads Q a (suc k) m h = (
-  subst Q (add-zero a) (h 0 (zero-lt-suc k)),
-  loads-then Q (reads (suc a) k) (λ bs. done (getD m a 0 ∷ bs)) m
-      (loads-reads Q (suc a) k m (λ i l. subst Q (add-suc a i ∙ sym (suc-add a i)) (h (suc i) (suc-le-suc l)))) tt,
-)
+      along : {A : Type 0} (E : List ℕ → A → Type 0) (s₁ s₂ : List ℕ) (R b : ℕ → Type 0) (s : ℕ → ℕ → Type 0) (p : Bus A) (m₁ m₂ : List ℕ)
+          → ((x : ℕ) → Q x ⊎ b x → R x) → ((x y : ℕ) → s x y → (m : List ℕ) → I m → I (set m x y)) → I m₁ → Keeps L S E b s p m₁
+          → Agree R m₁ m₂ → Apart s₁ s₂ m₁ m₂ → Told s₁ s₂ p m₁ m₂
+      unfolding Keeps run addresses
+      along E s₁ s₂ R b s (done a) m₁ m₂ f g i h e k = record { answers = refl; transfers = refl; bytes = k }
+      along E s₁ s₂ R b s (load a p) m₁ m₂ f g i h e k =
+          let known : R a = ⊎-elim (λ (q : b a). f a (inr q)) (λ (q : L m₁ a). f a (inl (within m₁ a i q))) (h .0) in
+          let byte : getD m₁ a 0 ≡ getD m₂ a 0 = e .same a known in
+          let rest : Told s₁ s₂ (p (getD m₁ a 0)) m₁ m₂ = along E s₁ s₂ R b s (p (getD m₁ a 0)) m₁ m₂ f g i (h .1) e k in
+          record {
+            answers = subst (λ (x : ℕ). run (p (getD m₁ a 0)) m₁ .answer ≡ run (p x) m₂ .answer) byte (rest .answers);
+            transfers = subst (λ (x : ℕ). (a ∷ addresses (p (getD m₁ a 0)) m₁) ≡ (a ∷ addresses (p x) m₂)) byte (ap (λ (l : List ℕ). a ∷ l) (rest .transfers));
+            bytes = subst (λ (x : ℕ). Apart s₁ s₂ (run (p (getD m₁ a 0)) m₁ .memory) (run (p x) m₂ .memory)) byte (rest .bytes);
+          }
+      along E s₁ s₂ R b s (store a v p) m₁ m₂ f g i h e k =
+          let held : I (set m₁ a v) = ⊎-elim (λ (q : s a v). g a v q m₁ i) (λ (q : S m₁ a v). holds m₁ m₁ a v i q i) (h .0) in
+          let rest : Told s₁ s₂ p (set m₁ a v) (set m₂ a v) =
+          along E s₁ s₂ (λ x. (x ≡ a) ⊎ R x) _ _ p (set m₁ a v) (set m₂ a v)
+          (λ x. ⊎-elim (λ (q : Q x). inr (f x (inl q)))
+          (λ (q : (x ≡ a) ⊎ (b x ⊎ L m₁ x)). ⊎-elim (λ (c : x ≡ a). inl c)
+          (λ (c : b x ⊎ L m₁ x). inr (⊎-elim (λ (d : b x). f x (inr d)) (λ (d : L m₁ x). f x (inl (within m₁ x i d))) c)) q))
+          (λ x y. ⊎-elim (λ (q : s x y). g x y q) (λ (q : S m₁ x y). λ m j. holds m₁ m x y i q j)) held (h .1)
+          (agree-set R m₁ m₂ a v e) (apart-set s₁ s₂ m₁ m₂ a v (e .lengths) k) in
+          record { answers = rest .answers; transfers = ap (λ (l : List ℕ). a ∷ l) (rest .transfers); bytes = rest .bytes }
 
--- .. and so with words
-pub loads-words : (Q : ℕ → Type 0) (k a : ℕ) (m : List ℕ) → ((i : ℕ) → i < 2 * k → Q (a + i)) → Loads Q (words a k) m
-unfolding Loads words
-loads-words Q zero a m h = tt
-loads-words Q (suc k) a m h = (
-  subst Q (add-zero a) (h 0 (omega arith)),
-  (
-    subst Q (add-one a) (h 1 (omega arith)),
-    loads-then Q (words (suc (suc a)) k) _ m
-        (loads-words Q k (suc (suc a)) m (λ i l. let d : a + (i + 2) ≡ suc (suc a) + i = omega arith in subst Q d (h (i + 2) (omega arith)))) tt,
-  ),
-)
-
--- storing loads nothing
-pub loads-bytes : (Q : ℕ → Type 0) (a : ℕ) (bs m : List ℕ) → Loads Q (bytes a bs) m
-unfolding Loads bytes
-loads-bytes Q a [] m = tt
-loads-bytes Q a (b ∷ bs) m = loads-bytes (λ x. (x ≡ a) ⊎ Q x) (suc a) bs (set m a b)
+      pub secret : {A : Type 0} (E : List ℕ → A → Type 0) (p : Bus A) (m₁ m₂ : List ℕ) → I m₁ → Within L S E p m₁ → Agree Q m₁ m₂ → Secret p m₁ m₂
+      secret E p m₁ m₂ i h e =
+          let t : Told m₁ m₂ p m₁ m₂ =
+          along E m₁ m₂ Q _ _ p m₁ m₂ (λ x. ⊎-elim (λ (q : Q x). q) (λ (q : ⊥). absurd q)) (λ x y. absurd) i h e (λ a. inr (refl, refl)) in
+          record { answers = t .answers; transfers = t .transfers; bytes = t .bytes }

@@ -8,6 +8,6 @@ abbrev pub bit : ℕ → ℕ → Bool
 bit x w = eqb (x / w % 2) 1
 
 -- what a bit that weighs w adds to a number
-unfoldable pub put : Bool → ℕ → ℕ
-put true w = w
-put false w = 0
+unfoldable pub weigh : Bool → ℕ → ℕ
+weigh true w = w
+weigh false w = 0

@@ -1,7 +1,8 @@
 -- Bus programs: what touches memory, as a tree of transfers of one byte each, in their order.
-use Prim.Native.Nat.{ℕ, zero, suc, _+_, _*_}
-use mathlib.Core.List.{List, [], _∷_, _++_}
-use lib.ListN.{length, drop, getD, set}
+use Prim.Native.Nat.{ℕ, zero, suc}
+use mathlib.Core.List.{List, [], _∷_}
+use lib.ListN.{getD, set}
+use Rattle.bus.specs.Words.{joined, filled}
 
 -- a program that ends with an answer, loads the byte at an address, or stores one there
 pub data Bus (A : Type 0) : Type 0 where
@@ -42,21 +43,26 @@ unfoldable pub bytes : ℕ → List ℕ → Bus (Unit {0})
 bytes a [] = done tt
 bytes a (b ∷ bs) = store a b (bytes (suc a) bs)
 
--- the bytes that a memory has from an address on
-unfoldable pub part : List ℕ → ℕ → ℕ → List ℕ
-part m a zero = []
-part m a (suc k) = getD m a 0 ∷ part m (suc a) k
-
--- a slice that bytes fill from its start: no other byte of it changes
-abbrev pub filled : List ℕ → List ℕ → List ℕ
-filled bs out = bs ++ drop (length bs) out
-
 -- little-endian words from an address on
 unfoldable pub words : ℕ → ℕ → Bus (List ℕ)
 words a zero = done []
-words a (suc k) = load a (λ low. load (suc a) (λ high. words (suc (suc a)) k >>= (λ ws. done ((low + 256 * high) ∷ ws))))
+words a (suc k) = load a (λ low. load (suc a) (λ high. words (suc (suc a)) k >>= (λ ws. done (joined low high ∷ ws))))
 
--- the words that a memory has from an address on
-unfoldable pub wordsAt : List ℕ → ℕ → ℕ → List ℕ
-wordsAt m a zero = []
-wordsAt m a (suc k) = (getD m a 0 + 256 * getD m (suc a) 0) ∷ wordsAt m (suc (suc a)) k
+-- an answer, and the frame that is handed out with it
+pub record Handed (A : Type 0) : Type 0 where
+  pub answer : A
+  pub frame : List ℕ
+
+-- an answer with which nothing is handed out
+unfoldable pub emptyHanded : {A : Type 0} → A → Handed A
+emptyHanded a = record { answer = a; frame = [] }
+
+-- what is left when a program has run: its answer, the memory and the outgoing slice
+pub record Left (A : Type 0) : Type 0 where
+  pub answer : A
+  pub memory : List ℕ
+  pub out : List ℕ
+
+-- "A frame handed out fills the outgoing slice from its start; no other byte of it changes."
+unfoldable pub leaves : {A : Type 0} → Ended (Handed A) → List ℕ → Left A
+leaves e out = record { answer = e .answer .answer; memory = e .memory; out = filled (e .answer .frame) out }

@@ -2,3 +2,6 @@
 pub mod Passing
 pub mod Chains
 pub mod Reaching
+pub mod Touching
+pub mod Since
+pub mod One

@@ -3,15 +3,25 @@ ghost use mathlib.Core.Path.{_≡_};
 ghost use Prim.Native.Nat.{_<_};
 ghost use lib.ListN.{length};
 ghost use Rattle.bus.specs.Bus.{run};
+ghost use Rattle.ring.specs.Slots.{slots};
 ghost use Rattle.chain.specs.Start.{pass};
-ghost use Rattle.chain.specs.Chain.{grow, link, links, chain as chainOf};
-ghost use Rattle.chain.specs.Bounds.{Counted, Within, Small};
+ghost use Rattle.chain.specs.Chain.{grow, link, links, readChain};
+ghost use Rattle.chain.specs.Inner.Bounds.{Counted, Within, Small};
 use ring::Descriptor;
 use ring::Found;
+use ring::Ring;
 use ring::Slot;
-use ring::look_at;
-use ring::next;
-use ring::place;
+use ring::look;
+
+// Bits of a status.
+const OWN: u8 = 0x80;
+
+const STP: u8 = 0x02;
+
+const ENP: u8 = 0x01;
+
+// The most bytes that a chain may have.
+const MOST: u16 = 4096;
 
 // What a turn finds where a frame should start.
 pub enum Start {
@@ -47,14 +57,15 @@ pub struct Closed {
     pub reach: Reach,
 }
 
-// Slots are passed to where a frame starts.
-pub fn pass_slots(memory: &mut [u8], base: u32, slots: u16, slot: Slot) -> Start
-    ensures { λ r. ⌜ run (pass (length (now (memory .entry))) base slots slots slot) (now (memory .entry)) ≡ record { answer = r; memory = now (memory .exit) } ⌝ }
+// Slots are passed to where a frame starts, from the current one on.
+pub fn pass(memory: &mut [u8], ring: Ring) -> Start
+    ensures { λ r. ⌜ run (pass (length (now (memory .entry))) ring (slots ring) (ring .slot)) (now (memory .entry)) ≡ record { answer = r; memory = now (memory .exit) } ⌝ }
 {
-    let mut i = slot;
-    let mut left = slots;
+    let r = ring;
+    let mut i = ring.slot;
+    let mut left = ring.slots();
     while 0 < left {
-        let found = look_at(memory, base, i);
+        let found = look(memory, r, i);
         match found {
             Found::Outside => {
                 return Start::NoMemory(i);
@@ -64,13 +75,13 @@ pub fn pass_slots(memory: &mut [u8], base: u32, slots: u16, slot: Slot) -> Start
             }
             Found::Owned(d) => {
                 let status = d.status;
-                let stp = status / 2 % 2;
+                let stp = status / STP % 2;
                 if stp == 1 {
                     return Start::Frame(i, d);
                 }
-                let at = place(base, i);
-                memory[at + 3] = status % 128;
-                i = next(slots, i);
+                let at = r.place(i);
+                memory[at + 3] = status % OWN;
+                i = r.next(i);
                 left -= 1;
             }
         }
@@ -79,13 +90,13 @@ pub fn pass_slots(memory: &mut [u8], base: u32, slots: u16, slot: Slot) -> Start
 }
 
 // A chain grows by an owned descriptor, in a memory of n bytes.
-fn grow_chain(n: usize, slots: u16, d: Descriptor, reach: Reach) -> Chain
+fn grow(n: usize, ring: Ring, d: Descriptor, reach: Reach) -> Chain
     requires { ⌜ Counted d ⌝ }
     requires { ⌜ Within reach ⌝ }
-    ensures { λ r. ⌜ r ≡ grow n slots d reach ⌝ }
+    ensures { λ r. ⌜ r ≡ grow n ring d reach ⌝ }
 {
     let end = d.address as usize + d.count as usize;
-    let slot = next(slots, reach.slot);
+    let slot = ring.next(reach.slot);
     let used = reach.slots + 1;
     let total = reach.total + d.count;
     let further = Reach {
@@ -96,10 +107,10 @@ fn grow_chain(n: usize, slots: u16, d: Descriptor, reach: Reach) -> Chain
     if n < end {
         return Chain::Over(Close::Memory, reach);
     }
-    if 4096 < total {
+    if MOST < total {
         return Chain::Over(Close::Long, further);
     }
-    let enp = d.status % 2;
+    let enp = d.status / ENP % 2;
     if enp == 1 {
         return Chain::Over(Close::Whole, further);
     }
@@ -107,28 +118,28 @@ fn grow_chain(n: usize, slots: u16, d: Descriptor, reach: Reach) -> Chain
 }
 
 // One slot more of a chain, unless it is over.
-fn link_chain(memory: &[u8], base: u32, slots: u16, chain: Chain) -> Chain
+fn link(memory: &[u8], ring: Ring, chain: Chain) -> Chain
     requires { ⌜ Small chain ⌝ }
-    ensures { λ r. ⌜ run (link (length (now (memory .entry))) base slots chain) (now (memory .entry)) ≡ record { answer = r; memory = now (memory .entry) } ⌝ }
+    ensures { λ r. ⌜ run (link (length (now (memory .entry))) ring chain) (now (memory .entry)) ≡ record { answer = r; memory = now (memory .entry) } ⌝ }
 {
     match chain {
         Chain::Over(close, reach) => Chain::Over(close, reach),
         Chain::Open(reach) => {
             let slot = reach.slot;
-            let found = look_at(memory, base, slot);
+            let found = look(memory, ring, slot);
             match found {
                 Found::Outside => Chain::Over(Close::Memory, reach),
                 Found::NotOwned => Chain::Over(Close::Short, reach),
-                Found::Owned(d) => grow_chain(memory.len(), slots, d, reach),
+                Found::Owned(d) => grow(memory.len(), ring, d, reach),
             }
         }
     }
 }
 
 // At most k slots more of a chain: each half by itself, so that no call is as deep as the chain is long.
-fn read_links(memory: &[u8], base: u32, slots: u16, k: u16, chain: Chain) -> Chain
+fn links(memory: &[u8], ring: Ring, k: u32, chain: Chain) -> Chain
     requires { ⌜ Small chain ⌝ }
-    ensures { λ r. ⌜ run (links (length (now (memory .entry))) base slots k chain) (now (memory .entry)) ≡ record { answer = r; memory = now (memory .entry) } ⌝ }
+    ensures { λ r. ⌜ run (links (length (now (memory .entry))) ring k chain) (now (memory .entry)) ≡ record { answer = r; memory = now (memory .entry) } ⌝ }
 {
     let Chain::Open(_) = chain else {
         return chain;
@@ -137,26 +148,26 @@ fn read_links(memory: &[u8], base: u32, slots: u16, k: u16, chain: Chain) -> Cha
         return chain;
     }
     if k == 1 {
-        return link_chain(memory, base, slots, chain);
+        return link(memory, ring, chain);
     }
     let half = k / 2;
-    let first = read_links(memory, base, slots, half, chain);
-    read_links(memory, base, slots, k - half, first)
+    let first = links(memory, ring, half, chain);
+    links(memory, ring, k - half, first)
 }
 
 // The chain from its first slot, whose descriptor was read.
-pub fn read_chain(memory: &[u8], base: u32, slots: u16, slot: Slot, d: Descriptor) -> Closed
+pub fn read_chain(memory: &[u8], ring: Ring, slot: Slot, d: Descriptor) -> Closed
     requires { ⌜ Counted d ⌝ }
-    requires { ⌜ 0 < slots ⌝ }
-    ensures { λ r. ⌜ run (chainOf (length (now (memory .entry))) base slots slot d) (now (memory .entry)) ≡ record { answer = r; memory = now (memory .entry) } ⌝ }
+    requires { ⌜ 0 < slots ring ⌝ }
+    ensures { λ r. ⌜ run (readChain (length (now (memory .entry))) ring slot d) (now (memory .entry)) ≡ record { answer = r; memory = now (memory .entry) } ⌝ }
 {
     let start = Reach {
         slot,
         slots: 0,
         total: 0,
     };
-    let first = grow_chain(memory.len(), slots, d, start);
-    let last = read_links(memory, base, slots, slots - 1, first);
+    let first = grow(memory.len(), ring, d, start);
+    let last = links(memory, ring, ring.slots() - 1, first);
     match last {
         Chain::Open(reach) => Closed {
             close: Close::Short,

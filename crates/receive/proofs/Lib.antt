@@ -1,7 +1,8 @@
--- The laws by which the proofs of this crate go.
-pub mod Ends
-pub mod Writes
-pub mod Slots
+-- The laws by which the proofs of this crate, and of those above it, go.
+pub mod EndStatus
+pub mod Leaving
 pub mod Fills
 pub mod Turns
 pub mod Begins
+pub mod Touching
+pub mod One

@@ -7,29 +7,30 @@ use lib.ListN.{length}
 use Rattle.bus.specs.Bus.{run, Ended}
 use Rattle.bus.proofs.Run.{run-done}
 use Rattle.ring.specs.declared.Slot.{Slot}
+use Rattle.ring.specs.declared.Ring.{Ring}
 use Rattle.ring.specs.declared.Descriptor.{Descriptor}
 use Rattle.receive.specs.declared.Walked.{Walked}
 use Rattle.receive.specs.declared.Current.{Current}
 use Rattle.receive.specs.declared.Step.{Step}
 use Rattle.receive.specs.declared.Step.the-variants.{Over, On}
-use Rattle.receive.specs.Step.{onward, following, remaining, further, Onto, Kept, Goes}
+use Rattle.receive.specs.Inner.Step.{onward, following, remaining, resumed, Onto, Kept, Goes}
 
 -- what a turn comes to, where x is what the whole walk comes to
-module _ (base slots : ℕ) (f : List ℕ) (end : ℕ) (c : Current) (m m′ : List ℕ) (s : Step) (x : Ended Walked)
-    (e : run (remaining (length m) base slots f end c) m ≡ x)
-    (t : run (remaining (length m) base slots f end c) m ≡ run (onward s (further (length m) base slots f end c)) m′) where
+module _ (r : Ring) (f : List ℕ) (end : ℕ) (c : Current) (m m′ : List ℕ) (s : Step) (x : Ended Walked)
+    (e : run (remaining (length m) r f end c) m ≡ x)
+    (t : run (remaining (length m) r f end c) m ≡ run (onward s (resumed (length m) r f end c)) m′) where
   pub turn-over : (w : Walked) → s ≡ Over w → x ≡ record { answer = w; memory = m′ }
   unfolding onward
   turn-over w o = sym e ∙ t ∙ rw o (run-done w m′)
 
   pub turn-on : (i : Slot) (d : Descriptor) → s ≡ On i d → length m′ ≡ length m
-      → run (remaining (length m′) base slots f end (following c i d)) m′ ≡ x
-  unfolding onward further
-  turn-on i d o l = rw l (ap (λ (q : Step). run (onward q (further (length m) base slots f end c)) m′) (sym o) ∙ sym t ∙ e)
+      → run (remaining (length m′) r f end (following c i d)) m′ ≡ x
+  unfolding onward resumed
+  turn-on i d o l = rw l (ap (λ (q : Step). run (onward q (resumed (length m) r f end c)) m′) (sym o) ∙ sym t ∙ e)
 
 -- what the code knows of the next slot, where the walk goes on
-module _ (n base : ℕ) (f : List ℕ) (c : Current) (s : Step) (i : Slot) (d : Descriptor) (o : s ≡ On i d) (g : Onto s (Goes n base f c)) where
-  goes : Goes n base f c i
+module _ (n : ℕ) (r : Ring) (f : List ℕ) (c : Current) (s : Step) (i : Slot) (d : Descriptor) (o : s ≡ On i d) (g : Onto s (Goes n r f c)) where
+  goes : Goes n r f c i
   unfolding Onto
   goes = rw o at g
 
@@ -42,5 +43,5 @@ module _ (n base : ℕ) (f : List ℕ) (c : Current) (s : Step) (i : Slot) (d : 
   pub turn-within : c .from + c .descriptor .count ≤ length f
   turn-within = goes .within
 
-  pub turn-kept : (m : List ℕ) → length m ≡ n → Kept (length m) base f (following c i d)
-  turn-kept m l = let h : Goes n base f c i = goes in record { inside = record { fits = omega arith }; within = omega arith; start = omega arith }
+  pub turn-kept : (m : List ℕ) → length m ≡ n → Kept (length m) r f (following c i d)
+  turn-kept m l = let h : Goes n r f c i = goes in record { inside = record { fits = omega arith }; within = omega arith; start = omega arith }

@@ -1,4 +1,4 @@
--- The definitions that the contracts of this crate cite, in the order of document 01.
+-- The definitions that the contracts of this crate cite, in the order of document 01; Inner has those that no other crate needs.
 pub mod Status
 pub mod Walk
-pub mod Step
+pub mod Inner

@@ -1,9 +1,7 @@
 -- The status byte of a receive descriptor: "bit 7 to 0: OWN, ERR, FRAM, OFLO, CRC, BUFF, STP, ENP".
 use Prim.Native.Nat.{ℕ, zero, suc, _+_}
 use mathlib.Core.Bool.{Bool, true, false}
-
-abbrev pub ERR : ℕ
-ERR = 0x40
+use Rattle.ring.specs.Status.{ERR, ENP}
 
 abbrev pub FRAM : ℕ
 FRAM = 0x20
@@ -13,12 +11,6 @@ CRC = 0x08
 
 abbrev pub BUFF : ℕ
 BUFF = 0x04
-
-abbrev pub STP : ℕ
-STP = 0x02
-
-abbrev pub ENP : ℕ
-ENP = 0x01
 
 -- "CRC with ERR stands in the ENP status when the FCS is wrong; FRAM with ERR when extra bits are not 0"
 unfoldable pub endStatus : Bool → ℕ → ℕ

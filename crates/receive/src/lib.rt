@@ -1,15 +1,17 @@
 // A frame's way through the receive ring.
 ghost use mathlib.Core.Path.{_≡_};
-ghost use Prim.Native.Nat.{_+_, _≤_, _<_};
-ghost use lib.ListN.{length, take, drop};
-ghost use Rattle.bus.specs.Bus.{Bus, run, bytes};
+ghost use Prim.Native.Nat.{_≤_, _<_};
+ghost use lib.ListN.{length};
+ghost use Rattle.bus.specs.Bus.{Bus, run};
 ghost use Rattle.ring.specs.declared.Slot.{Slot};
 ghost use Rattle.ring.specs.declared.Descriptor.{Descriptor};
-ghost use Rattle.receive.specs.Status.{endStatus, STP};
-ghost use Rattle.receive.specs.Walk.{walk, beyond, ended, cut, status, mcnt};
-ghost use Rattle.receive.specs.Step.{onward, stopped, endingOf, remaining, further, Onto, Inside, Kept, Goes};
+ghost use Rattle.ring.specs.Status.{STP};
+ghost use Rattle.receive.specs.Status.{endStatus};
+ghost use Rattle.receive.specs.Walk.{walk, beyond, ended, leave, status};
+ghost use Rattle.receive.specs.Inner.Step.{onward, stopsAt, endingOf, remaining, resumed, Onto, Fits, Kept, Goes};
 use ring::Descriptor;
 use ring::Found;
+use ring::Ring;
 use ring::Slot;
 
 // The bits of a receive status.
@@ -42,7 +44,7 @@ pub struct Walked {
 // The current slot of a walk: how many slots the frame may use from it on, its descriptor, how many bytes of the frame went
 // before, and its STP.
 struct Current {
-    left: u16,
+    left: u32,
     slot: Slot,
     descriptor: Descriptor,
     from: usize,
@@ -70,121 +72,68 @@ fn end_status(right: bool, extra: u32) -> u8
     }
 }
 
-// `count` bytes of the frame, from `from` on, go to the memory at `at`.
-fn copy_in(memory: &mut [u8], at: usize, frame: &[u8], from: usize, count: usize)
-    requires { ⌜ (at + count ≤ length (now memory)) × (from + count ≤ length (now frame)) ⌝ }
-    ensures { λ r. ⌜ run (bytes at (take count (drop from (now (frame .entry))))) (now (memory .entry)) ≡ record { answer = tt; memory = now (memory .exit) } ⌝ }
-{
-    let mut i = 0;
-    while i < count {
-        memory[at + i] = frame[from + i];
-        i += 1;
-    }
-}
-
 // A descriptor takes a status.
-fn write_status(memory: &mut [u8], base: u32, slot: Slot, bits: u8)
-    requires { ⌜ Inside (length (now memory)) base slot ⌝ }
-    ensures { λ r. ⌜ run (status base slot bits) (now (memory .entry)) ≡ record { answer = tt; memory = now (memory .exit) } ⌝ }
+fn status(memory: &mut [u8], ring: Ring, slot: Slot, bits: u8)
+    requires { ⌜ Fits (length (now memory)) ring slot ⌝ }
+    ensures { λ r. ⌜ run (status ring slot bits) (now (memory .entry)) ≡ record { answer = tt; memory = now (memory .exit) } ⌝ }
 {
-    let at = ring::place(base, slot);
+    let at = ring.place(slot);
     memory[at + 3] = bits;
 }
 
-// A descriptor takes MCNT.
-fn write_mcnt(memory: &mut [u8], base: u32, slot: Slot, count: usize)
-    requires { ⌜ Inside (length (now memory)) base slot ⌝ }
-    ensures { λ r. ⌜ run (mcnt base slot count) (now (memory .entry)) ≡ record { answer = tt; memory = now (memory .exit) } ⌝ }
+// A slot takes its status, and the walk ends.
+fn leave(memory: &mut [u8], ring: Ring, slot: Slot, bits: u8, ending: Ending) -> Walked
+    requires { ⌜ Fits (length (now memory)) ring slot ⌝ }
+    ensures { λ r. ⌜ run (leave ring slot bits ending) (now (memory .entry)) ≡ record { answer = r; memory = now (memory .exit) } ⌝ }
 {
-    let at = ring::place(base, slot);
-    memory[at + 6] = (count % 256) as u8;
-    memory[at + 7] = (count / 256 % 256) as u8;
-}
-
-// The frame is cut at a slot.
-fn cut_short(memory: &mut [u8], base: u32, slots: u16, slot: Slot, stp: u8) -> Walked
-    requires { ⌜ Inside (length (now memory)) base slot × (stp ≤ STP) ⌝ }
-    ensures { λ r. ⌜ run (cut base slots slot stp) (now (memory .entry)) ≡ record { answer = r; memory = now (memory .exit) } ⌝ }
-{
-    write_status(memory, base, slot, stp + ERR + BUFF);
+    status(memory, ring, slot, bits);
     Walked {
-        ending: Ending::Cut,
-        slot: ring::next(slots, slot),
+        ending,
+        slot: ring.next(slot),
     }
 }
 
 // The frame, of `count` bytes, ends at a slot.
-fn end_frame(
-    memory: &mut [u8],
-    base: u32,
-    slots: u16,
-    slot: Slot,
-    count: usize,
-    end: u8,
-    stp: u8,
-) -> Walked
-    requires { ⌜ Inside (length (now memory)) base slot × (stp ≤ STP) × (end < 128) ⌝ }
-    ensures { λ r. ⌜ run (ended base slots count end slot stp) (now (memory .entry)) ≡ record { answer = r; memory = now (memory .exit) } ⌝ }
+fn ended(memory: &mut [u8], ring: Ring, count: usize, end: u8, slot: Slot, stp: u8) -> Walked
+    requires { ⌜ Fits (length (now memory)) ring slot × (stp ≤ STP) × (end < 128) ⌝ }
+    ensures { λ r. ⌜ run (ended ring count end slot stp) (now (memory .entry)) ≡ record { answer = r; memory = now (memory .exit) } ⌝ }
 {
-    write_mcnt(memory, base, slot, count);
-    write_status(memory, base, slot, stp + end);
-    Walked {
-        ending: Ending::Received,
-        slot: ring::next(slots, slot),
-    }
+    let at = ring.place(slot);
+    bus::put_word(memory, at + 6, (count % 65536) as u16);
+    leave(memory, ring, slot, stp + end, Ending::Received)
 }
 
 // The walk ends at a slot, since the next one is outside the memory or not owned.
-fn stop_before(
-    memory: &mut [u8],
-    base: u32,
-    slots: u16,
-    slot: Slot,
-    stp: u8,
-    found: Found,
-) -> Walked
-    requires { ⌜ Inside (length (now memory)) base slot × (stp ≤ STP) ⌝ }
-    ensures { λ r. ⌜ run (stopped base slots slot stp found) (now (memory .entry)) ≡ record { answer = r; memory = now (memory .exit) } ⌝ }
+fn stops_at(memory: &mut [u8], ring: Ring, slot: Slot, stp: u8, found: Found) -> Walked
+    requires { ⌜ Fits (length (now memory)) ring slot × (stp ≤ STP) ⌝ }
+    ensures { λ r. ⌜ run (stopsAt ring slot stp found) (now (memory .entry)) ≡ record { answer = r; memory = now (memory .exit) } ⌝ }
 {
     match found {
-        Found::Outside => {
-            write_status(memory, base, slot, stp);
-            Walked {
-                ending: Ending::Memory,
-                slot: ring::next(slots, slot),
-            }
-        }
-        _ => cut_short(memory, base, slots, slot, stp),
+        Found::Outside => leave(memory, ring, slot, stp, Ending::Memory),
+        _ => leave(memory, ring, slot, stp + ERR + BUFF, Ending::Cut),
     }
 }
 
 // The frame goes beyond a slot: the next one is read.
-fn read_next(memory: &mut [u8], base: u32, slots: u16, slot: Slot, stp: u8) -> Step
-    requires { ⌜ Inside (length (now memory)) base slot × (stp ≤ STP) ⌝ }
-    ensures { λ r. ⌜ ((on : Slot → Descriptor → Bus Walked) → run (beyond (length (now (memory .entry))) base slots slot stp on) (now (memory .entry)) ≡ run (onward r on) (now (memory .exit))) ⌝ }
-    ensures { λ r. ⌜ Onto r (Inside (length (now (memory .entry))) base) ⌝ }
+fn beyond(memory: &mut [u8], ring: Ring, slot: Slot, stp: u8) -> Step
+    requires { ⌜ Fits (length (now memory)) ring slot × (stp ≤ STP) ⌝ }
+    ensures { λ r. ⌜ ((on : Slot → Descriptor → Bus Walked) → run (beyond (length (now (memory .entry))) ring slot stp on) (now (memory .entry)) ≡ run (onward r on) (now (memory .exit))) ⌝ }
+    ensures { λ r. ⌜ Onto r (Fits (length (now (memory .entry))) ring) ⌝ }
 {
-    let next = ring::next(slots, slot);
-    let found = ring::look_at(memory, base, next);
+    let next = ring.next(slot);
+    let found = ring::look(memory, ring, next);
     let Found::Owned(descriptor) = found else {
-        return Step::Over(stop_before(memory, base, slots, slot, stp, found));
+        return Step::Over(stops_at(memory, ring, slot, stp, found));
     };
-    write_status(memory, base, slot, stp);
+    status(memory, ring, slot, stp);
     Step::On(next, descriptor)
 }
 
 // A slot's buffer takes what fits of the frame, and what comes after the slot is found out.
-fn fill_slot(
-    memory: &mut [u8],
-    base: u32,
-    slots: u16,
-    current: Current,
-    frame: &[u8],
-    end: u8,
-) -> Step
-    requires { ⌜ Kept (length (now memory)) base (now frame) current × (end < 128) ⌝ }
-    ensures { λ r. ⌜ run (remaining (length (now (memory .entry))) base slots (now (frame .entry)) end current) (now (memory .entry)) ≡ run (onward r (further (length (now (memory .entry))) base slots (now (frame .entry)) end current)) (now (memory .exit)) ⌝ }
-    ensures { λ r. ⌜ Onto r (Goes (length (now (memory .entry))) base (now (frame .entry)) current) ⌝ }
+fn fill_slot(memory: &mut [u8], ring: Ring, current: Current, frame: &[u8], end: u8) -> Step
+    requires { ⌜ Kept (length (now memory)) ring (now frame) current × (end < 128) ⌝ }
+    ensures { λ r. ⌜ run (remaining (length (now (memory .entry))) ring (now (frame .entry)) end current) (now (memory .entry)) ≡ run (onward r (resumed (length (now (memory .entry))) ring (now (frame .entry)) end current)) (now (memory .exit)) ⌝ }
+    ensures { λ r. ⌜ Onto r (Goes (length (now (memory .entry))) ring (now (frame .entry)) current) ⌝ }
 {
     let slot = current.slot;
     let descriptor = current.descriptor;
@@ -200,31 +149,25 @@ fn fill_slot(
     }
     let rest = frame.len() - from;
     if rest <= count {
-        copy_in(memory, at, frame, from, rest);
-        return Step::Over(end_frame(memory, base, slots, slot, frame.len(), end, stp));
+        bus::copy_bytes(frame, from, rest, memory, at);
+        return Step::Over(ended(memory, ring, frame.len(), end, slot, stp));
     }
-    copy_in(memory, at, frame, from, count);
+    bus::copy_bytes(frame, from, count, memory, at);
     if current.left <= 1 {
-        return Step::Over(cut_short(memory, base, slots, slot, stp));
+        return Step::Over(leave(memory, ring, slot, stp + ERR + BUFF, Ending::Cut));
     }
-    read_next(memory, base, slots, slot, stp)
+    beyond(memory, ring, slot, stp)
 }
 
-// The slots from the first on are filled, one a turn.
-fn fill_ring(
-    memory: &mut [u8],
-    base: u32,
-    slots: u16,
-    first: Current,
-    frame: &[u8],
-    end: u8,
-) -> Walked
-    requires { ⌜ Kept (length (now memory)) base (now frame) first × (end < 128) ⌝ }
-    ensures { λ r. ⌜ run (remaining (length (now (memory .entry))) base slots (now (frame .entry)) end first) (now (memory .entry)) ≡ record { answer = r; memory = now (memory .exit) } ⌝ }
+// The walk from an owned slot on.
+fn fill(memory: &mut [u8], ring: Ring, first: Current, frame: &[u8], end: u8) -> Walked
+    requires { ⌜ Kept (length (now memory)) ring (now frame) first × (end < 128) ⌝ }
+    ensures { λ r. ⌜ run (remaining (length (now (memory .entry))) ring (now (frame .entry)) end first) (now (memory .entry)) ≡ record { answer = r; memory = now (memory .exit) } ⌝ }
 {
+    let r = ring;
     let mut current = first;
     loop {
-        let step = fill_slot(memory, base, slots, current, frame, end);
+        let step = fill_slot(memory, r, current, frame, end);
         match step {
             Step::Over(walked) => return walked,
             Step::On(slot, descriptor) => {
@@ -244,7 +187,7 @@ fn fill_ring(
 }
 
 // How a walk ends whose first slot is outside the memory or not owned.
-fn unowned(found: Found) -> Ending
+fn ending_of(found: Found) -> Ending
     ensures { λ r. ⌜ r ≡ endingOf found ⌝ }
 {
     match found {
@@ -253,30 +196,23 @@ fn unowned(found: Found) -> Ending
     }
 }
 
-// A frame's way through the ring, from a slot on.
-pub fn walk_ring(
-    memory: &mut [u8],
-    base: u32,
-    slots: u16,
-    slot: Slot,
-    frame: &[u8],
-    right: bool,
-    extra: u32,
-) -> Walked
-    ensures { λ r. ⌜ run (walk (length (now (memory .entry))) base slots (now (frame .entry)) (endStatus right extra) slot) (now (memory .entry)) ≡ record { answer = r; memory = now (memory .exit) } ⌝ }
+// A frame's way through the ring, from its current slot on.
+pub fn walk(memory: &mut [u8], ring: Ring, frame: &[u8], right: bool, extra: u32) -> Walked
+    ensures { λ r. ⌜ run (walk (length (now (memory .entry))) ring (now (frame .entry)) (endStatus right extra)) (now (memory .entry)) ≡ record { answer = r; memory = now (memory .exit) } ⌝ }
 {
-    let found = ring::look_at(memory, base, slot);
+    let slot = ring.slot;
+    let found = ring::look(memory, ring, slot);
     let Found::Owned(descriptor) = found else {
-        let ending = unowned(found);
+        let ending = ending_of(found);
         return Walked { ending, slot };
     };
     let first = Current {
-        left: slots,
+        left: ring.slots(),
         slot,
         descriptor,
         from: 0,
         stp: STP,
     };
     let end = end_status(right, extra);
-    fill_ring(memory, base, slots, first, frame, end)
+    fill(memory, ring, first, frame, end)
 }

@@ -1,3 +1,7 @@
--- A law of CSR0's word, and what is proved of this crate's contracts.
+-- Laws of CSR0 and of the written registers, and what is proved of this crate's contracts.
 pub mod Words
+pub mod Steps
+pub mod Bits
+pub mod Csr0s
+pub mod Tables
 pub mod One

@@ -2,8 +2,8 @@
 use Prim.Native.Nat.{ℕ}
 
 -- "CSR0, from bit 15: ERR, BABL, CERR, MISS, MERR, RINT, TINT, IDON, INTR, IENA, RXON, TXON, TDMD, STOP, STRT, INIT."
-abbrev pub ERR : ℕ
-ERR = 0x8000
+abbrev pub CSR0-ERR : ℕ
+CSR0-ERR = 0x8000
 
 abbrev pub BABL : ℕ
 BABL = 0x4000

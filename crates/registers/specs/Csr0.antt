@@ -1,37 +1,38 @@
 -- CSR0: its word, its causes, and what each event does to it.
-use Prim.Native.Nat.{ℕ, _+_}
+use Prim.Native.Nat.{ℕ, _+_, _/_, _%_}
 use mathlib.Core.Bool.{Bool, true, false, not, _&&_, _||_}
+use lib.Dec.{eqb}
 use Rattle.registers.specs.declared.Csr0.{Csr0}
-use Rattle.bus.specs.Bits.{bit, put}
-use Rattle.registers.specs.Bits.{ERR, BABL, CERR, MISS, MERR, RINT, TINT, IDON, INTR, IENA, RXON, TXON, TDMD, STOP, STRT, INIT}
+use Rattle.bus.specs.Bits.{bit, weigh}
+use Rattle.registers.specs.Bits.{CSR0-ERR, BABL, CERR, MISS, MERR, RINT, TINT, IDON, INTR, IENA, RXON, TXON, TDMD, STOP, STRT, INIT}
 
 -- "ERR is BABL or CERR or MISS or MERR."
-unfoldable pub err : Csr0 → Bool
+abbrev pub err : Csr0 → Bool
 err s = s .babl || s .cerr || s .miss || s .merr
 
--- a cause whose "CSR3 mask bit (same position) is clear"
-unfoldable pub lets : ℕ → Bool → ℕ → Bool
-lets csr3 cause w = cause && not (bit csr3 w)
+-- a cause whose "CSR3 mask bit (same position) is clear": that bit is the last of `mask`
+abbrev pub heard : Bool → ℕ → Bool
+heard cause mask = cause && not (eqb (mask % 2) 1)
 
 -- "INTR is set when BABL, MISS, MERR, RINT, TINT or IDON is set and its CSR3 mask bit (same position) is clear."
 unfoldable pub intr : Csr0 → ℕ → Bool
 intr s csr3 =
-    lets csr3 (s .babl) BABL || lets csr3 (s .miss) MISS || lets csr3 (s .merr) MERR || lets csr3 (s .rint) RINT || lets csr3 (s .tint) TINT
-    || lets csr3 (s .idon) IDON
+    heard (s .babl) (csr3 / BABL) || heard (s .miss) (csr3 / MISS) || heard (s .merr) (csr3 / MERR) || heard (s .rint) (csr3 / RINT)
+    || heard (s .tint) (csr3 / TINT) || heard (s .idon) (csr3 / IDON)
 
 -- "The line is high when INTR and IENA are set."
 unfoldable pub lineOf : Csr0 → ℕ → Bool
 lineOf s csr3 = intr s csr3 && s .iena
 
 -- the sixteen bits as a register shows them
-unfoldable pub wordOf : Csr0 → ℕ → ℕ
-wordOf s csr3 =
-    put (err s) ERR + put (s .babl) BABL + put (s .cerr) CERR + put (s .miss) MISS + put (s .merr) MERR + put (s .rint) RINT
-    + put (s .tint) TINT + put (s .idon) IDON + put (intr s csr3) INTR + put (s .iena) IENA + put (s .rxon) RXON + put (s .txon) TXON
-    + put (s .tdmd) TDMD + put (s .stop) STOP + put (s .strt) STRT + put (s .init) INIT
+unfoldable pub word : Csr0 → ℕ → ℕ
+word s csr3 =
+    weigh (err s) CSR0-ERR + weigh (s .babl) BABL + weigh (s .cerr) CERR + weigh (s .miss) MISS + weigh (s .merr) MERR + weigh (s .rint) RINT
+    + weigh (s .tint) TINT + weigh (s .idon) IDON + weigh (intr s csr3) INTR + weigh (s .iena) IENA + weigh (s .rxon) RXON + weigh (s .txon) TXON
+    + weigh (s .tdmd) TDMD + weigh (s .stop) STOP + weigh (s .strt) STRT + weigh (s .init) INIT
 
 -- "After reset CSR0 is 0004h", and after a write with STOP
-unfoldable pub stopped : Csr0
+abbrev pub stopped : Csr0
 stopped =
     record {
       babl = false;
@@ -51,8 +52,8 @@ stopped =
     }
 
 -- the bits of the word `off` become 0, and those of the word `on` become 1
-unfoldable pub change : Csr0 → ℕ → ℕ → Csr0
-change s on off =
+unfoldable pub changed : Csr0 → ℕ → ℕ → Csr0
+changed s on off =
     record {
       babl = (s .babl && not (bit off BABL)) || bit on BABL;
       cerr = (s .cerr && not (bit off CERR)) || bit on CERR;
@@ -71,9 +72,29 @@ change s on off =
     }
 
 -- any bit but STOP
-unfoldable pub others : Csr0 → Bool
+abbrev pub others : Csr0 → Bool
 others s = s .babl || s .cerr || s .miss || s .merr || s .rint || s .tint || s .idon || s .iena || s .rxon || s .txon || s .tdmd || s .strt || s .init
 
 -- "with STOP set CSR0 is 0004h, with STOP clear INIT or STRT is set; RXON, TXON and TDMD need STRT"
 unfoldable pub soundCsr0 : Csr0 → Bool
 soundCsr0 s = not (s .stop && others s) && (s .stop || s .strt || s .init) && (s .strt || not (s .rxon || s .txon || s .tdmd))
+
+-- CSR0's bits in its word; ERR and INTR follow from the others
+unfoldable pub csr0Of : ℕ → Csr0
+csr0Of w =
+    record {
+      babl = bit w BABL;
+      cerr = bit w CERR;
+      miss = bit w MISS;
+      merr = bit w MERR;
+      rint = bit w RINT;
+      tint = bit w TINT;
+      idon = bit w IDON;
+      iena = bit w IENA;
+      rxon = bit w RXON;
+      txon = bit w TXON;
+      tdmd = bit w TDMD;
+      stop = bit w STOP;
+      strt = bit w STRT;
+      init = bit w INIT;
+    }

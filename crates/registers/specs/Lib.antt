@@ -2,4 +2,4 @@
 pub mod Bits
 pub mod Csr0
 pub mod Writing
-pub mod Map
+pub mod Table

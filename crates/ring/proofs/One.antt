@@ -4,12 +4,14 @@ use Rattle.ring.proofs.Ring.none.Reads as none
 use Rattle.ring.proofs.Ring.from_words.Reads as from-words
 use Rattle.ring.proofs.Ring.is_unloaded.Reads as is-unloaded
 use Rattle.ring.proofs.Ring.is_loaded.Reads as is-loaded
-use Rattle.ring.proofs.slot_shown.Reads as slot-shown
-use Rattle.ring.proofs.length_shown.Reads as length-shown
-use Rattle.ring.proofs.next.Reads as next
-use Rattle.ring.proofs.place.Reads as place
-use Rattle.ring.proofs.describe.Reads as describe
-use Rattle.ring.proofs.look_at.Reads as look-at
+use Rattle.ring.proofs.Ring.slot_shown.Reads as slot-shown
+use Rattle.ring.proofs.Ring.length_shown.Reads as length-shown
+use Rattle.ring.proofs.Ring.slots.Reads as slots
+use Rattle.ring.proofs.Ring.moved.Reads as moved
+use Rattle.ring.proofs.Ring.next.Reads as next
+use Rattle.ring.proofs.Ring.place.Reads as place
+use Rattle.ring.proofs.described.Reads as described
+use Rattle.ring.proofs.look.Reads as look
 
 -- the ring before initialization
 pub one-none : Only none.Post
@@ -26,6 +28,14 @@ one-is-unloaded κs a r s e f = equation
 -- whether an initialization can leave a ring
 pub one-is-loaded : Only is-loaded.Post
 one-is-loaded κs a r s e f = equation
+
+-- how many slots a ring has
+pub one-slots : Only slots.Post
+one-slots κs a r s e f = bounded
+
+-- a ring with another current slot
+pub one-moved : Only moved.Post
+one-moved κs a r s e f = equation
 
 -- the counter that shows a slot
 pub one-slot-shown : Only slot-shown.Post
@@ -44,9 +54,9 @@ pub one-place : Only place.Post
 one-place κs a r s e f = bounded
 
 -- the descriptor at an address
-pub one-describe : Only describe.Post
-one-describe κs a r s e f = equation
+pub one-described : Only described.Post
+one-described κs a r s e f = equation
 
 -- what stands at a slot
-pub one-look-at : Only look-at.Post
-one-look-at κs a r s e f p q = ended p q .0
+pub one-look : Only look.Post
+one-look κs a r s e f p q = ended p q .0

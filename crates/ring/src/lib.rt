@@ -2,10 +2,14 @@
 ghost use mathlib.Core.Path.{_≡_};
 ghost use Prim.Native.Nat.{_+_, _*_, _≤_, _<_};
 ghost use lib.ListN.{length};
-ghost use Rattle.bus.specs.Bus.{run, part};
-ghost use Rattle.ring.specs.Ring.{counterOf, lengthCounter, nextOf, placeOf};
-ghost use Rattle.ring.specs.Loading.{noRing, ringFrom, isLength, unloaded, loaded};
-ghost use Rattle.ring.specs.Descriptor.{look, described, countOf};
+ghost use Rattle.bus.specs.Words.{joined, part};
+ghost use Rattle.bus.specs.Bus.{run};
+ghost use Rattle.ring.specs.Slots.{slots, slotShown, lengthShown, next, place, moved};
+ghost use Rattle.ring.specs.Loading.{none, fromWords, keptByBase, isLength, unloaded, loaded};
+ghost use Rattle.ring.specs.Descriptor.{countOf, described, look};
+
+// OWN of a status.
+const OWN: u8 = 0x80;
 
 // A slot number counts from zero.
 pub struct Slot(pub u16);
@@ -41,10 +45,17 @@ fn is_length(n: u16) -> bool
     (n == 1) | (n == 2) | (n == 4) | (n == 8) | (n == 16) | (n == 32) | (n == 64) | (n == 128)
 }
 
+// What a ring's base keeps of a number.
+fn kept_by_base(b: u32) -> u32
+    ensures { λ r. ⌜ r ≡ keptByBase b ⌝ }
+{
+    b % 0x1000000 / 8 * 8
+}
+
 impl Ring {
     // A ring before initialization.
     pub fn none() -> Ring
-        ensures { λ r. ⌜ r ≡ noRing ⌝ }
+        ensures { λ r. ⌜ r ≡ none ⌝ }
     {
         Ring {
             base: 0,
@@ -55,7 +66,7 @@ impl Ring {
 
     // The ring that two words of the initialization block name.
     pub fn from_words(low: u16, high: u16) -> Ring
-        ensures { λ r. ⌜ r ≡ ringFrom low high ⌝ }
+        ensures { λ r. ⌜ r ≡ fromWords low high ⌝ }
     {
         let base = (low / 8 * 8) as u32 + 65536 * ((high % 256) as u32);
         let length = 1u16 << (high / 8192);
@@ -78,60 +89,75 @@ impl Ring {
         ensures { λ r. ⌜ r ≡ loaded self ⌝ }
     {
         is_length(self.length)
-            & (self.slot.0 < self.length)
-            & (self.base % 0x1000000 / 8 * 8 == self.base)
+            & ((self.slot.0 as u32) < self.slots())
+            & (kept_by_base(self.base) == self.base)
     }
-}
 
-// The counter by which a register shows a slot.
-pub fn slot_shown(length: u16, slot: Slot) -> Counter
-    ensures { λ r. ⌜ r ≡ counterOf length slot ⌝ }
-{
-    Counter(((65536 - (length as u32) + (slot.0 as u32)) % 65536) as u16)
-}
-
-// The counter by which a register shows a length.
-pub fn length_shown(length: u16) -> Counter
-    ensures { λ r. ⌜ r ≡ lengthCounter length ⌝ }
-{
-    Counter(((65536 - (length as u32)) % 65536) as u16)
-}
-
-// The slot after a slot.
-pub fn next(length: u16, slot: Slot) -> Slot
-    ensures { λ r. ⌜ r ≡ nextOf length slot ⌝ }
-{
-    let after = slot.0 as u32 + 1;
-    if after < length as u32 {
-        Slot(after as u16)
-    } else {
-        Slot(0)
+    // How many slots a ring has.
+    pub fn slots(self) -> u32
+        ensures { λ r. ⌜ (r ≡ slots self) × (r ≤ 65536) ⌝ }
+    {
+        self.length as u32
     }
-}
 
-// Where the descriptor of a slot stands.
-pub fn place(base: u32, slot: Slot) -> usize
-    ensures { λ r. ⌜ (r ≡ placeOf base slot) × (r < 0x200000000) ⌝ }
-{
-    base as usize + 8 * (slot.0 as usize)
+    // The counter by which a register shows a slot.
+    pub fn slot_shown(self, slot: Slot) -> Counter
+        ensures { λ r. ⌜ r ≡ slotShown self slot ⌝ }
+    {
+        Counter(((65536 - self.slots() + slot.0 as u32) % 65536) as u16)
+    }
+
+    // The counter by which a register shows a length.
+    pub fn length_shown(self) -> Counter
+        ensures { λ r. ⌜ r ≡ lengthShown self ⌝ }
+    {
+        Counter(((65536 - self.slots()) % 65536) as u16)
+    }
+
+    // The slot after a slot.
+    pub fn next(self, slot: Slot) -> Slot
+        ensures { λ r. ⌜ r ≡ next self slot ⌝ }
+    {
+        let after = slot.0 as u32 + 1;
+        if after < self.slots() {
+            Slot(after as u16)
+        } else {
+            Slot(0)
+        }
+    }
+
+    // Where the descriptor of a slot stands.
+    pub fn place(self, slot: Slot) -> usize
+        ensures { λ r. ⌜ (r ≡ place self slot) × (r < 0x200000000) ⌝ }
+    {
+        self.base as usize + 8 * (slot.0 as usize)
+    }
+
+    // The ring with another current slot.
+    pub fn moved(mut self, slot: Slot) -> Ring
+        ensures { λ r. ⌜ r ≡ moved self slot ⌝ }
+    {
+        self.slot = slot;
+        self
+    }
 }
 
 // The address in three bytes.
 fn address_of(low: u8, middle: u8, high: u8) -> u32
-    ensures { λ r. ⌜ r ≡ low + 256 * middle + 65536 * high ⌝ }
+    ensures { λ r. ⌜ r ≡ joined low middle + 65536 * high ⌝ }
 {
-    low as u32 + 256 * (middle as u32) + 65536 * (high as u32)
+    bus::joined(low, middle) as u32 + 65536 * (high as u32)
 }
 
 // The byte count in two bytes.
 fn count_of(low: u8, high: u8) -> u16
-    ensures { λ r. ⌜ r ≡ countOf (low + 256 * high) ⌝ }
+    ensures { λ r. ⌜ r ≡ countOf (joined low high) ⌝ }
 {
-    4096 - (low as u16 + 256 * (high as u16)) % 4096
+    4096 - bus::joined(low, high) % 4096
 }
 
 // What the descriptor at a place says.
-pub fn describe(memory: &[u8], at: usize) -> Descriptor
+pub fn described(memory: &[u8], at: usize) -> Descriptor
     requires { ⌜ at + 8 ≤ length (now memory) ⌝ }
     ensures { λ r. ⌜ r ≡ described (part (now (memory .entry)) at 8) ⌝ }
 {
@@ -145,15 +171,15 @@ pub fn describe(memory: &[u8], at: usize) -> Descriptor
 }
 
 // What stands at a slot.
-pub fn look_at(memory: &[u8], base: u32, slot: Slot) -> Found
-    ensures { λ r. ⌜ run (look (length (now (memory .entry))) base slot) (now (memory .entry)) ≡ record { answer = r; memory = now (memory .entry) } ⌝ }
+pub fn look(memory: &[u8], ring: Ring, slot: Slot) -> Found
+    ensures { λ r. ⌜ run (look (length (now (memory .entry))) ring slot) (now (memory .entry)) ≡ record { answer = r; memory = now (memory .entry) } ⌝ }
 {
-    let at = place(base, slot);
+    let at = ring.place(slot);
     if memory.len() < at + 8 {
         return Found::Outside;
     }
-    if memory[at + 3] < 128 {
+    if memory[at + 3] < OWN {
         return Found::NotOwned;
     }
-    Found::Owned(describe(memory, at))
+    Found::Owned(described(memory, at))
 }

@@ -1,4 +1,3 @@
 -- The definitions that the contracts of this crate cite.
 pub mod Report
-pub mod Written
 pub mod Turn

@@ -1,17 +1,20 @@
--- `chain::read_chain` meets its contract: the first descriptor, the slots after it and the end come to the chain.
+-- `read_chain`: the first descriptor, the slots after it and the end come to the chain.
 use Rattle.chain.proofs.Chains.{start-within, first-small, chain-open, chain-over}
 use borrow.Author.Needs.{needs}
 use Rattle.chain.proofs.read_chain.Statement.{statement}
 use Rattle.chain.proofs.read_chain.Tie as tie
 
-grow-chain-requires : tie.Need-grow-chain-requires
-grow-chain-requires c κs = search start-within
+grow-requires : tie.Need-grow-requires
+grow-requires c κs = search start-within
 
-sub-read-links : tie.Need-sub-read-links
-sub-read-links c = search needs
+slots-requires : tie.Need-slots-requires
+slots-requires c κs = search needs
 
-read-links-requires : tie.Need-read-links-requires
-read-links-requires c κs = search first-small
+sub-links : tie.Need-sub-links
+sub-links c = search needs
+
+links-requires : tie.Need-links-requires
+links-requires c κs = search first-small
 
 enum-known-last : tie.Need-enum-known-last
 enum-known-last c = search needs
@@ -29,9 +32,10 @@ pub read-chain-spec : {M : Type 1} → statement M
 read-chain-spec =
     tie.close
     (tie.spec
-    grow-chain-requires
-    sub-read-links
-    read-links-requires
+    grow-requires
+    slots-requires
+    sub-links
+    links-requires
     enum-known-last
     enum-known-last-2
     returns

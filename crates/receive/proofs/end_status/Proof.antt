@@ -1,5 +1,5 @@
 -- `end_status`: the status of the slot where a frame ends.
-use Rattle.receive.proofs.Ends.{end-good, end-wrong, end-extra, end-both}
+use Rattle.receive.proofs.EndStatus.{end-good, end-wrong, end-extra, end-both}
 use borrow.Author.Needs.{needs}
 use Rattle.receive.proofs.end_status.Statement.{statement}
 use Rattle.receive.proofs.end_status.Tie as tie

@@ -1,7 +1,5 @@
--- `transmit::append_fcs` meets its contract: the four stores are the FCS low byte first.
-use native.Mathlib.Omega.{arith}
-use lib.ListN.{length-set}
-use Rattle.transmit.proofs.Copying.{fcs-written}
+-- `append_fcs`: the two words are the FCS, low byte first.
+use Rattle.transmit.proofs.Frames.{fcs-written}
 use borrow.Author.Needs.{needs}
 use Rattle.transmit.proofs.append_fcs.Statement.{statement}
 use Rattle.transmit.proofs.append_fcs.Tie as tie
@@ -18,38 +16,20 @@ part-fcs-of-end c = search needs
 fcs-of-requires : tie.Need-fcs-of-requires
 fcs-of-requires c κs = search needs
 
-cast-out : tie.Need-cast-out
-cast-out c = search needs
+cast-put-word : tie.Need-cast-put-word
+cast-put-word c = search needs
 
-slice-write-out : tie.Need-slice-write-out
-slice-write-out c = search needs
+put-word-requires : tie.Need-put-word-requires
+put-word-requires c κs = search needs
 
-cast-out-2 : tie.Need-cast-out-2
-cast-out-2 c = search needs
+add-put-word : tie.Need-add-put-word
+add-put-word c = search needs
 
-add-out : tie.Need-add-out
-add-out c = search needs
+cast-put-word-2 : tie.Need-cast-put-word-2
+cast-put-word-2 c = search needs
 
-slice-write-out-2 : tie.Need-slice-write-out-2
-slice-write-out-2 c = simp length-set (omega arith)
-
-cast-out-3 : tie.Need-cast-out-3
-cast-out-3 c = search needs
-
-add-out-2 : tie.Need-add-out-2
-add-out-2 c = search needs
-
-slice-write-out-3 : tie.Need-slice-write-out-3
-slice-write-out-3 c = simp length-set (omega arith)
-
-cast-out-4 : tie.Need-cast-out-4
-cast-out-4 c = search needs
-
-add-out-3 : tie.Need-add-out-3
-add-out-3 c = search needs
-
-slice-write-out-4 : tie.Need-slice-write-out-4
-slice-write-out-4 c = simp length-set (omega arith)
+put-word-requires-2 : tie.Need-put-word-requires-2
+put-word-requires-2 c κs = search needs
 
 same-length : tie.Need-same-length
 same-length c = search needs
@@ -65,16 +45,10 @@ append-fcs-spec =
     part-fcs-of-start
     part-fcs-of-end
     fcs-of-requires
-    cast-out
-    slice-write-out
-    cast-out-2
-    add-out
-    slice-write-out-2
-    cast-out-3
-    add-out-2
-    slice-write-out-3
-    cast-out-4
-    add-out-3
-    slice-write-out-4
+    cast-put-word
+    put-word-requires
+    add-put-word
+    cast-put-word-2
+    put-word-requires-2
     same-length
     returns)

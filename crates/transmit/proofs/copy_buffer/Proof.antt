@@ -1,4 +1,4 @@
--- `transmit::copy_buffer` meets its contract: the bytes are those that the descriptor names.
+-- `copy_buffer`: the bytes are those that the descriptor names.
 use Rattle.transmit.proofs.Frames.{buffer-inside, buffer-room, buffer-place, buffer-written}
 use borrow.Author.Needs.{needs}
 use Rattle.transmit.proofs.copy_buffer.Statement.{statement}
@@ -7,8 +7,8 @@ use Rattle.transmit.proofs.copy_buffer.Tie as tie
 place-requires : tie.Need-place-requires
 place-requires c κs = search needs
 
-describe-requires : tie.Need-describe-requires
-describe-requires c κs = search needs
+described-requires : tie.Need-described-requires
+described-requires c κs = search needs
 
 cast-from : tie.Need-cast-from
 cast-from c = search needs
@@ -33,7 +33,7 @@ copy-buffer-spec =
     tie.close
     (tie.spec
     place-requires
-    describe-requires
+    described-requires
     cast-from
     cast-count
     copy-bytes-requires

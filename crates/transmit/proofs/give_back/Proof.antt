@@ -1,17 +1,17 @@
--- `transmit::give_back` meets its contract: all slots but the last are released, and the last is finished.
+-- `give_back`: all slots but the last are released, and the last is finished.
 use Rattle.transmit.proofs.Releasing.{given-less, last-placed, given-back}
 use borrow.Author.Needs.{needs}
 use Rattle.transmit.proofs.give_back.Statement.{statement}
 use Rattle.transmit.proofs.give_back.Tie as tie
 
-sub-release-slots : tie.Need-sub-release-slots
-sub-release-slots c = search needs
+sub-release : tie.Need-sub-release
+sub-release c = search needs
 
-release-slots-requires : tie.Need-release-slots-requires
-release-slots-requires c κs = search given-less
+release-requires : tie.Need-release-requires
+release-requires c κs = search given-less
 
-finish-slot-requires : tie.Need-finish-slot-requires
-finish-slot-requires c κs = search (last-placed, needs)
+finish-requires : tie.Need-finish-requires
+finish-requires c κs = search (last-placed, needs)
 
 same-length : tie.Need-same-length
 same-length c = search needs
@@ -21,5 +21,4 @@ returns c = search given-back
 
 pub give-back-spec : {M : Type 1} → statement M
 give-back-spec =
-    tie.close
-    (tie.spec sub-release-slots release-slots-requires finish-slot-requires same-length returns)
+    tie.close (tie.spec sub-release release-requires finish-requires same-length returns)

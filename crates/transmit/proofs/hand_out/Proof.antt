@@ -1,11 +1,11 @@
--- `transmit::hand_out` meets its contract: the frame stands in the slice, with its FCS or without.
+-- `hand_out`: the frame stands in the slice, with its FCS or without.
 use Rattle.transmit.proofs.Frames.{fcs-long, fcs-behind, bare-long, bare-written}
 use borrow.Author.Needs.{needs}
 use Rattle.transmit.proofs.hand_out.Statement.{statement}
 use Rattle.transmit.proofs.hand_out.Tie as tie
 
-gather-frame-requires : tie.Need-gather-frame-requires
-gather-frame-requires c κs = search needs
+gather-requires : tie.Need-gather-requires
+gather-requires c κs = search needs
 
 append-fcs-requires : tie.Need-append-fcs-requires
 append-fcs-requires c κs = search needs
@@ -35,7 +35,7 @@ pub hand-out-spec : {M : Type 1} → statement M
 hand-out-spec =
     tie.close
     (tie.spec
-    gather-frame-requires
+    gather-requires
     append-fcs-requires
     add-result
     cast-result

@@ -1,10 +1,11 @@
-use borrow.Author.Needs.{needs}
+-- `word`: the law says what the sixteen bits come to.
 use Rattle.registers.proofs.Words.{sixteen-bits}
+use borrow.Author.Needs.{needs}
 use Rattle.registers.proofs.Csr0.word.Statement.{statement}
 use Rattle.registers.proofs.Csr0.word.Tie as tie
 
-errs-requires : tie.Need-errs-requires
-errs-requires c κs = search needs
+err-requires : tie.Need-err-requires
+err-requires c κs = search needs
 
 weigh-requires : tie.Need-weigh-requires
 weigh-requires c κs = search needs
@@ -51,8 +52,8 @@ weigh-requires-8 c κs = search needs
 add-result-7 : tie.Need-add-result-7
 add-result-7 c = search needs
 
-interrupts-requires : tie.Need-interrupts-requires
-interrupts-requires c κs = search needs
+intr-requires : tie.Need-intr-requires
+intr-requires c κs = search needs
 
 weigh-requires-9 : tie.Need-weigh-requires-9
 weigh-requires-9 c κs = search needs
@@ -109,7 +110,7 @@ pub word-spec : {M : Type 1} → statement M
 word-spec =
     tie.close
     (tie.spec
-    errs-requires
+    err-requires
     weigh-requires
     weigh-requires-2
     add-result
@@ -125,7 +126,7 @@ word-spec =
     add-result-6
     weigh-requires-8
     add-result-7
-    interrupts-requires
+    intr-requires
     weigh-requires-9
     add-result-8
     weigh-requires-10

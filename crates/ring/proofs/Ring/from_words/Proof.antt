@@ -1,7 +1,7 @@
 use Rattle.ring.proofs.Lengths.{shifted}
 use native.Mathlib.Omega.{arith}
 use Prim.Native.Nat.{_/_}
-use Rattle.ring.specs.Loading.{ringFrom}
+use Rattle.ring.specs.Loading.{fromWords}
 use borrow.Author.Needs.{needs}
 use Rattle.ring.proofs.Ring.from_words.Statement.{statement}
 use Rattle.ring.proofs.Ring.from_words.Tie as tie
@@ -25,7 +25,7 @@ shl-length : tie.Need-shl-length
 shl-length c = search needs
 
 returns : tie.Need-returns
-unfolding ringFrom
+unfolding fromWords
 returns c = rw (shifted (c .args .high / 8192) (omega arith))
 
 pub from-words-spec : {M : Type 1} → statement M

@@ -1,4 +1,5 @@
-use Rattle.ring.specs.Loading.{loaded, keptByBase}
+-- `is_loaded`: test by test.
+use Rattle.ring.proofs.Counting.{loaded-is}
 use borrow.Author.Needs.{needs}
 use Rattle.ring.proofs.Ring.is_loaded.Statement.{statement}
 use Rattle.ring.proofs.Ring.is_loaded.Tie as tie
@@ -6,12 +7,19 @@ use Rattle.ring.proofs.Ring.is_loaded.Tie as tie
 is-length-requires : tie.Need-is-length-requires
 is-length-requires c κs = search needs
 
-mul-result : tie.Need-mul-result
-mul-result c = search needs
+cast-result : tie.Need-cast-result
+cast-result c = search needs
+
+slots-requires : tie.Need-slots-requires
+slots-requires c κs = search needs
+
+kept-by-base-requires : tie.Need-kept-by-base-requires
+kept-by-base-requires c κs = search needs
 
 returns : tie.Need-returns
-unfolding loaded keptByBase
-returns c = rw (c .before .before .before .is-length .ensures)
+returns c = search loaded-is
 
 pub is-loaded-spec : {M : Type 1} → statement M
-is-loaded-spec = tie.close (tie.spec is-length-requires mul-result returns)
+is-loaded-spec =
+    tie.close
+    (tie.spec is-length-requires cast-result slots-requires kept-by-base-requires returns)

@@ -1,0 +1,2 @@
+-- What only the contracts within this crate cite.
+pub mod Step

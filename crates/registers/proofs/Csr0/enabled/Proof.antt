@@ -1,0 +1,17 @@
+-- `enabled`: the law joins what `weigh` and `changed` give.
+use Rattle.registers.proofs.Steps.{enables}
+use borrow.Author.Needs.{needs}
+use Rattle.registers.proofs.Csr0.enabled.Statement.{statement}
+use Rattle.registers.proofs.Csr0.enabled.Tie as tie
+
+weigh-requires : tie.Need-weigh-requires
+weigh-requires c κs = search needs
+
+changed-requires : tie.Need-changed-requires
+changed-requires c κs = search needs
+
+returns : tie.Need-returns
+returns c = search enables
+
+pub enabled-spec : {M : Type 1} → statement M
+enabled-spec = tie.close (tie.spec weigh-requires changed-requires returns)
