@@ -1,142 +1,55 @@
 // The state block: the card's state in 512 lent bytes, read and written.
 ghost use mathlib.Core.Path.{_≡_};
-ghost use mathlib.Core.List.{[]};
-ghost use Prim.Native.Nat.{_+_, _*_, _≤_};
+ghost use Prim.Native.Nat.{_*_, _≤_};
 ghost use lib.ListN.{length};
-ghost use lib.Seq.{sets};
-ghost use Rattle.block.specs.Block.{word, long, stateWords, wordBytes, unused, blockOf, wordAt, csr0Of, ringAt, filterIn, stateIn, holds, opens};
+ghost use Rattle.bus.specs.Words.{overwritten};
+ghost use Rattle.card.specs.State.{WORDS};
+ghost use Rattle.block.specs.Block.{wordBytes, unused, blockOf, stateIn, holds, opens};
 use bus::joined;
-use bus::weigh;
+use bus::put_word;
 use card::Card;
-use registers::BABL;
-use registers::CERR;
-use registers::Csr0;
-use registers::IDON;
-use registers::IENA;
-use registers::INIT;
-use registers::MERR;
-use registers::MISS;
-use registers::RINT;
-use registers::RXON;
-use registers::STOP;
-use registers::STRT;
-use registers::TDMD;
-use registers::TINT;
-use registers::TXON;
-use ring::Ring;
-use ring::Slot;
+use card::WORDS;
 
-// The word at a place of a block.
-fn word_at(block: &[u8], at: usize) -> u16
-    requires { ⌜ at + 2 ≤ length (now block) ⌝ }
-    ensures { λ r. ⌜ r ≡ wordAt (now (block .entry)) at ⌝ }
-{
-    joined(block[at], block[at + 1])
-}
+// A block's bytes, and those that the check is made of.
+pub const BYTES: usize = 512;
 
-// The bits of CSR0 in its word.
-fn csr0_of(w: u16) -> Csr0
-    ensures { λ r. ⌜ r ≡ csr0Of w ⌝ }
-{
-    Csr0 {
-        babl: w / BABL % 2 == 1,
-        cerr: w / CERR % 2 == 1,
-        miss: w / MISS % 2 == 1,
-        merr: w / MERR % 2 == 1,
-        rint: w / RINT % 2 == 1,
-        tint: w / TINT % 2 == 1,
-        idon: w / IDON % 2 == 1,
-        iena: w / IENA % 2 == 1,
-        rxon: w / RXON % 2 == 1,
-        txon: w / TXON % 2 == 1,
-        tdmd: w / TDMD % 2 == 1,
-        stop: w / STOP % 2 == 1,
-        strt: w / STRT % 2 == 1,
-        init: w / INIT % 2 == 1,
-    }
-}
+const CHECKED: usize = 508;
 
-// The ring at a place of a block.
-fn ring_at(block: &[u8], at: usize) -> Ring
-    requires { ⌜ at + 8 ≤ length (now block) ⌝ }
-    ensures { λ r. ⌜ r ≡ ringAt (now (block .entry)) at ⌝ }
-{
-    let low = word_at(block, at);
-    let high = word_at(block, at + 2);
-    let length = word_at(block, at + 4);
-    let slot = Slot(word_at(block, at + 6));
-    Ring {
-        base: low as u32 + 65536 * (high as u32),
-        length,
-        slot,
-    }
-}
+// The state's bytes.
+const STATE: usize = 2 * WORDS;
 
-// The filter at its place of a block.
-fn filter_in(block: &[u8]) -> [u16; 4]
-    requires { ⌜ 46 ≤ length (now block) ⌝ }
-    ensures { λ r. ⌜ r ≡ filterIn (now (block .entry)) ⌝ }
-{
-    [
-        word_at(block, 22),
-        word_at(block, 24),
-        word_at(block, 26),
-        word_at(block, 28),
-    ]
-}
-
-// The state that a block's places say.
+// The state that a block's words say.
 pub fn state_in(block: &[u8]) -> Card
-    requires { ⌜ 46 ≤ length (now block) ⌝ }
+    requires { ⌜ 2 * WORDS ≤ length (now block) ⌝ }
     ensures { λ r. ⌜ r ≡ stateIn (now (block .entry)) ⌝ }
 {
-    let csr0 = csr0_of(word_at(block, 0));
-    let address = [
-        block[16],
-        block[17],
-        block[18],
-        block[19],
-        block[20],
-        block[21],
-    ];
-    let filter = filter_in(block);
-    let receive = ring_at(block, 30);
-    let transmit = ring_at(block, 38);
-    Card {
-        csr0,
-        rap: (word_at(block, 2) % 256) as u8,
-        csr1: word_at(block, 4),
-        csr2: (word_at(block, 6) % 256) as u8,
-        csr3: word_at(block, 8),
-        missed: word_at(block, 10),
-        initialized: word_at(block, 12) % 2 == 1,
-        mode: word_at(block, 14),
-        address,
-        filter,
-        receive,
-        transmit,
-    }
+    let mut words = [0u16; WORDS];
+    bus::read_words(block, 0, &mut words);
+    Card::state_of(words)
 }
 
-// Whether the state's 46 bytes say nothing besides the state: CSR0 has its derived bits, and three words only what the state takes.
-fn is_head(block: &[u8], card: Card) -> bool
-    requires { ⌜ (46 ≤ length (now block)) × (card ≡ stateIn (now block)) ⌝ }
-    ensures { λ r. ⌜ r ≡ holds (now (block .entry)) 0 (wordBytes (stateWords card) []) ⌝ }
+// Whether a block starts with these words.
+fn is_head(block: &[u8], words: &[u16; WORDS]) -> bool
+    requires { ⌜ 2 * WORDS ≤ length (now block) ⌝ }
+    ensures { λ r. ⌜ r ≡ holds (now (block .entry)) 0 (wordBytes (now (words .entry))) ⌝ }
 {
-    let csr0 = card.csr0;
-    let control = word_at(block, 0) == csr0.word(card.csr3);
-    let initialized = word_at(block, 12) == weigh(card.initialized, 1);
-    control & (block[3] == 0) & (block[7] == 0) & initialized
+    let mut same = true;
+    let mut i = 0;
+    while i < WORDS {
+        same = same & (joined(block[2 * i], block[2 * i + 1]) == words[i]);
+        i += 1;
+    }
+    same
 }
 
 // Whether the unused bytes are 0.
 fn is_rest(block: &[u8]) -> bool
     requires { ⌜ 508 ≤ length (now block) ⌝ }
-    ensures { λ r. ⌜ r ≡ holds (now (block .entry)) 46 (unused 462) ⌝ }
+    ensures { λ r. ⌜ r ≡ holds (now (block .entry)) (2 * WORDS) unused ⌝ }
 {
     let mut zeros = true;
-    let mut at = 46;
-    while at < 508 {
+    let mut at = STATE;
+    while at < CHECKED {
         zeros = zeros & (block[at] == 0);
         at += 1;
     }
@@ -147,74 +60,21 @@ fn is_rest(block: &[u8]) -> bool
 pub fn is_open(block: &[u8]) -> bool
     ensures { λ r. ⌜ r ≡ opens (now (block .entry)) ⌝ }
 {
-    if block.len() != 512 {
+    if block.len() != BYTES {
         return false;
     }
     let card = state_in(block);
-    fcs::right_fcs(block) & is_head(block, card) & is_rest(block) & card.is_sound()
-}
-
-// A word's two bytes go to a place.
-fn put_word(block: &mut [u8], at: usize, w: u16)
-    requires { ⌜ at + 2 ≤ length (now block) ⌝ }
-    ensures { λ r. ⌜ now (block .exit) ≡ sets (now (block .entry)) at (word w []) ⌝ }
-{
-    block[at] = (w % 256) as u8;
-    block[at + 1] = (w / 256 % 256) as u8;
-}
-
-// Four bytes go to a place.
-fn put_long(block: &mut [u8], at: usize, x: u32)
-    requires { ⌜ at + 4 ≤ length (now block) ⌝ }
-    ensures { λ r. ⌜ now (block .exit) ≡ sets (now (block .entry)) at (long x []) ⌝ }
-{
-    put_word(block, at, (x % 65536) as u16);
-    put_word(block, at + 2, (x / 65536 % 65536) as u16);
-}
-
-// The state as words.
-fn words_of(card: Card) -> [u16; 23]
-    ensures { λ r. ⌜ r ≡ stateWords card ⌝ }
-{
-    let csr0 = card.csr0;
-    let a = card.address;
-    let f = card.filter;
-    let receive = card.receive;
-    let transmit = card.transmit;
-    [
-        csr0.word(card.csr3),
-        card.rap as u16,
-        card.csr1,
-        card.csr2 as u16,
-        card.csr3,
-        card.missed,
-        weigh(card.initialized, 1),
-        card.mode,
-        joined(a[0], a[1]),
-        joined(a[2], a[3]),
-        joined(a[4], a[5]),
-        f[0],
-        f[1],
-        f[2],
-        f[3],
-        (receive.base % 65536) as u16,
-        (receive.base / 65536 % 65536) as u16,
-        receive.length,
-        receive.slot.0,
-        (transmit.base % 65536) as u16,
-        (transmit.base / 65536 % 65536) as u16,
-        transmit.length,
-        transmit.slot.0,
-    ]
+    let words = card.state_words();
+    fcs::right_fcs(block) & is_head(block, &words) & is_rest(block) & card.is_sound()
 }
 
 // The state's words go to the block's start.
-fn put_words(block: &mut [u8], words: &[u16; 23])
-    requires { ⌜ (46 ≤ length (now block)) × (length (now words) ≡ 23) ⌝ }
-    ensures { λ r. ⌜ now (block .exit) ≡ sets (now (block .entry)) 0 (wordBytes (now (words .entry)) []) ⌝ }
+fn put_words(block: &mut [u8], words: &[u16; WORDS])
+    requires { ⌜ 2 * WORDS ≤ length (now block) ⌝ }
+    ensures { λ _. ⌜ now (block .exit) ≡ overwritten (now (block .entry)) 0 (wordBytes (now (words .entry))) ⌝ }
 {
     let mut i = 0;
-    while i < 23 {
+    while i < WORDS {
         put_word(block, 2 * i, words[i]);
         i += 1;
     }
@@ -223,10 +83,10 @@ fn put_words(block: &mut [u8], words: &[u16; 23])
 // The unused bytes become 0.
 fn clear_rest(block: &mut [u8])
     requires { ⌜ 508 ≤ length (now block) ⌝ }
-    ensures { λ r. ⌜ now (block .exit) ≡ sets (now (block .entry)) 46 (unused 462) ⌝ }
+    ensures { λ _. ⌜ now (block .exit) ≡ overwritten (now (block .entry)) (2 * WORDS) unused ⌝ }
 {
-    let mut i = 46;
-    while i < 508 {
+    let mut i = STATE;
+    while i < CHECKED {
         block[i] = 0;
         i += 1;
     }
@@ -235,11 +95,12 @@ fn clear_rest(block: &mut [u8])
 // The block of a state is written.
 pub fn put_state(block: &mut [u8], card: Card)
     requires { ⌜ length (now block) ≡ 512 ⌝ }
-    ensures { λ r. ⌜ now (block .exit) ≡ blockOf card ⌝ }
+    ensures { λ _. ⌜ now (block .exit) ≡ blockOf card ⌝ }
 {
-    let words = words_of(card);
+    let words = card.state_words();
     put_words(block, &words);
     clear_rest(block);
-    let check = fcs::fcs_of(&block[0..508]);
-    put_long(block, 508, check);
+    let check = fcs::fcs_of(&block[0..CHECKED]);
+    put_word(block, CHECKED, (check % 65536) as u16);
+    put_word(block, CHECKED + 2, (check / 65536 % 65536) as u16);
 }

@@ -1,11 +1,13 @@
 -- Bytes that are read from a slice and written into one.
-use mathlib.Core.Path.{_≡_, refl, sym, ap, _∙_}
+use mathlib.Core.Path.{_≡_, refl, sym, ap, subst, _∙_}
 use mathlib.Core.List.{List, [], _∷_, _++_}
 use Prim.Native.Nat.{ℕ, zero, suc, _+_, _-_, _*_, _/_, _%_, _≤_, _<_}
-use native.Mathlib.Nat.{zero-add, add-zero, add-suc, suc-add, sub-zero, not-suc-le-zero, le-of-suc-le-suc}
+use native.Mathlib.Nat.{zero-add, add-zero, add-suc, suc-add, sub-zero, not-suc-le-zero, le-of-suc-le-suc, lt-irrefl}
+use native.Mathlib.Numerals.{add-one}
 use native.Mathlib.Omega.{arith}
-use lib.ListN.{length, getD, set, take, drop}
-use lib.Seq.{sets, sets-eq, drop-cons, take-append-seam}
+use borrow.Author.Count.{below-more}
+use lib.ListN.{length, getD, set, take, drop, length-set}
+use lib.Seq.{sets, sets-eq, drop-cons, take-append-seam, getD-set-same, getD-set-other, ext-getD}
 use Rattle.bus.specs.Words.{joined, bytesOf, part, wordsAt, overwritten, filled}
 
 -- the bytes from an address on, where all are inside
@@ -90,3 +92,34 @@ written-front f out h =
 
 pub take-written : (f out : List ℕ) → length f ≤ length out → take (length f) (overwritten out 0 f) ≡ f
 take-written f out h = rw (written-front f out) (take-append-seam f (drop (length f) out))
+
+-- the first i of some words are those that stand in memory
+pub record Read (m ws : List ℕ) (at k i : ℕ) : Type 0 where
+  pub within : i ≤ k
+  pub long : length ws ≡ k
+  pub so-far : (j : ℕ) → j < i → getD ws j 0 ≡ getD (wordsAt m at k) j 0
+
+-- one more
+pub read-more : (m ws : List ℕ) (at k i w : ℕ) → Read m ws at k i → i < length ws
+    → w ≡ joined (getD m (at + 2 * i) 0) (getD m (at + 2 * i + 1) 0) → Read m (set ws i w) at k (i + 1)
+read-more m ws at k i w r l e =
+    let h : i < k = omega (arith, r .long) in
+    let here : getD (set ws i w) i 0 ≡ getD (wordsAt m at k) i 0 =
+    getD-set-same ws i w 0 l ∙ e
+    ∙ sym (getD-words k i at m h ∙ ap (λ (j : ℕ). joined (getD m (at + 2 * i) 0) (getD m j 0)) (sym (add-one (at + 2 * i)))) in
+    record {
+      within = omega arith;
+      long = length-set ws i w ∙ r .long;
+      so-far =
+          below-more (λ (j : ℕ). getD (set ws i w) j 0 ≡ getD (wordsAt m at k) j 0) i
+          (λ j b. getD-set-other ws i j w 0 (λ q. lt-irrefl j (subst (λ (x : ℕ). j < x) (sym q) b)) ∙ r .so-far j b) here;
+    }
+
+-- all of them
+pub read-all : (m ws : List ℕ) (at k i : ℕ) → Read m ws at k i → length ws ≤ i → ws ≡ wordsAt m at k
+read-all m ws at k i r h =
+    ext-getD 0 ws (wordsAt m at k) (r .long ∙ sym (length-words k at m)) (λ j l. r .so-far j (omega (arith, r .long)))
+
+-- none of them yet
+pub read-none : (m ws : List ℕ) (at : ℕ) → Read m ws at (length ws) 0
+read-none m ws at = record { within = omega arith; long = refl; so-far = λ j l. absurd (omega arith) }

@@ -4,6 +4,7 @@ use denote.Ref.{now}
 use Rattle.bus.proofs.Only.{Only, equation, bounded}
 use Rattle.bus.proofs.weigh.Reads as weigh
 use Rattle.bus.proofs.joined.Reads as joined
+use Rattle.bus.proofs.read_words.Reads as read-words
 use Rattle.bus.proofs.put_word.Reads as put-word
 use Rattle.bus.proofs.copy_bytes.Reads as copy-bytes
 
@@ -22,3 +23,7 @@ one-put-word κs a r s e f = equation
 -- a copy
 pub one-copy-bytes : (κs : _) (a : _) (r s : _) (e f : _) → copy-bytes.Post κs a r e → copy-bytes.Post κs a s f → now (e .1 .1 .1 .0) ≡ now (f .1 .1 .1 .0)
 one-copy-bytes κs a r s e f = equation
+
+-- the words from a place on
+pub one-read-words : (κs : _) (a : _) (r s : _) (e f : _) → read-words.Post κs a r e → read-words.Post κs a s f → now (e .1 .1 .0) ≡ now (f .1 .1 .0)
+one-read-words κs a r s e f = equation

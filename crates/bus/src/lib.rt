@@ -1,10 +1,10 @@
 // What the crates above share: a bit's weight, words of two bytes and copies between slices. The crate's definitions and laws are
 // about bus programs.
 ghost use mathlib.Core.Path.{_≡_};
-ghost use Prim.Native.Nat.{_+_, _≤_};
+ghost use Prim.Native.Nat.{_+_, _*_, _≤_};
 ghost use lib.ListN.{length};
 ghost use Rattle.bus.specs.Bits.{weigh};
-ghost use Rattle.bus.specs.Words.{joined, bytesOf, part, overwritten};
+ghost use Rattle.bus.specs.Words.{joined, bytesOf, part, wordsAt, overwritten};
 
 // What a bit adds to a number.
 pub fn weigh(b: bool, weight: u16) -> u16
@@ -18,6 +18,18 @@ pub fn joined(low: u8, high: u8) -> u16
     ensures { λ r. ⌜ r ≡ joined low high ⌝ }
 {
     low as u16 + 256 * (high as u16)
+}
+
+// The little-endian words of a slice from a place on, as many as `to` has.
+pub fn read_words(from: &[u8], at: usize, to: &mut [u16])
+    requires { ⌜ at + 2 * length (now to) ≤ length (now from) ⌝ }
+    ensures { λ _. ⌜ now (to .exit) ≡ wordsAt (now (from .entry)) at (length (now (to .entry))) ⌝ }
+{
+    let mut i = 0;
+    while i < to.len() {
+        to[i] = joined(from[at + 2 * i], from[at + 2 * i + 1]);
+        i += 1;
+    }
 }
 
 // A word's two bytes go to a place of a slice.

@@ -1,114 +1,79 @@
--- Answers and refusals.
+-- What is handed back, and what a call's number decides.
 use mathlib.Core.Path.{_≡_, refl, sym, ap, ap₂, _∙_}
-use mathlib.Core.Bool.{Bool, true, false, not, _&&_}
-use Prim.Native.Nat.{ℕ, _≤_, _<_}
-use mathlib.Core.List.{List, [], _∷_}
-use lib.Dec.{eqb, ltb}
-use borrow.Author.Tests.{lt-ltb, le-ltb}
-use Rattle.bus.specs.Bus.{Bus, Ended, run, done, _>>=_}
+use mathlib.Core.Bool.{Bool, not, _&&_}
+use Prim.Native.Nat.{ℕ, zero, suc}
+use mathlib.Core.List.{List}
+use lib.Dec.{eqb}
+use Rattle.bus.specs.Bus.{Bus, Ended, run, done, Handed, emptyHanded, Left, leaves, _>>=_}
 use Rattle.bus.proofs.Run.{run-gives, after}
-use Rattle.bus.proofs.Choices.{if-true, if-false}
-use Rattle.ring.specs.declared.Counter.{Counter}
+use Rattle.registers.specs.declared.Written.{Written}
+use Rattle.answers.specs.declared.Answer.{Answer}
+use Rattle.answers.specs.Answers.{refusal, done as does}
+use Rattle.answers.specs.Refusals.{unless}
 use Rattle.card.specs.declared.Card.{Card}
-use Rattle.card.specs.declared.Refusal.{Refusal}
-use Rattle.card.specs.declared.Refusal.the-variants.{BadBlock, LongMemory, LongFrame, ManyExtraBits, ShortSlice, BadReport, NoRegister, Locked, OnlyReads}
-use Rattle.card.specs.declared.Answer.{Answer}
-use Rattle.card.specs.declared.Answer.the-variants.{Refused as RefusedFor, Done}
-use Rattle.card.specs.declared.Verdict.{Verdict}
-use Rattle.card.specs.declared.Verdict.the-variants.{Allowed, Refused}
-use Rattle.card.specs.declared.Told.{Told}
-use Rattle.registers.specs.Map.{keptByCsr3}
-use Rattle.card.specs.State.{withRegisters, line}
-use Rattle.card.specs.Answers.{told, replied, refused, refusalNumber}
-use Rattle.card.specs.Refusals.{Test, _refuses-if_, first, verdictNumber, unless}
+use Rattle.card.specs.declared.Reply.{Reply}
+use Rattle.card.specs.State.{withWritten, line}
+use Rattle.card.specs.Replies.{replied, refused}
 
--- counters that are the same show the same
-pub same-counter : (a b : Counter) → a ≡ b → a .0 ≡ b .0
-same-counter a b e = ap (λ (x : Counter). x .0) e
+-- an answer, and a refusal
+pub replied-is : (c : Card) (a : Answer) (l : Bool) → l ≡ line c → record { card = c; answer = a; line = l } ≡ replied c a
+unfolding replied
+replied-is c a l e = rw e
 
--- an answer is told
-pub told-answer : (c : Card) (a : Answer) (l : Bool) → l ≡ line c → told (record { card = c; answer = a; line = l }) ≡ replied c a
-unfolding told replied
-told-answer c a l e = rw e
+pub refused-is : (c : Card) (n : ℕ) (a : Answer) (l : Bool) → a ≡ refusal n → l ≡ line c
+    → record { card = c; answer = a; line = not (eqb n 9) && l } ≡ refused c n
+unfolding refused
+refused-is c n a l ea el = rw (ea, el)
 
--- .. of a card and with a value that are known by other names
-pub told-done : (t : Told) (c d : Card) (v w : ℕ) → c ≡ d → v ≡ w → told t ≡ replied c (Done v) → told t ≡ replied d (Done w)
-told-done t c d v w ec ev e = e ∙ ap₂ (λ (x : Card) (y : ℕ). replied x (Done y)) ec ev
+-- an answer of a card that are known by other names
+pub replied-as : (r : Reply) (c d : Card) (a b : Answer) → c ≡ d → a ≡ b → r ≡ replied c a → r ≡ replied d b
+replied-as r c d a b ec ea e = e ∙ ap₂ replied ec ea
 
--- a refusal
-pub told-refused : (c : Card) (why : Refusal) (n : ℕ) (l : Bool) → n ≡ refusalNumber why → l ≡ line c
-    → told (record { card = c; answer = RefusedFor why; line = not (eqb n 9) && l }) ≡ refused c (refusalNumber why)
-unfolding told refused
-told-refused c why n l en el = rw (en, el)
-
--- what a verdict decides: `search verdicts`
-module _ {A : Type 0} where
-  unless-refused : (why : Refusal) (f : ℕ → A) (r : A) → unless (refusalNumber why) f r ≡ f (refusalNumber why)
-  unfolding unless
-  unless-refused BadBlock f r = refl
-  unless-refused LongMemory f r = refl
-  unless-refused LongFrame f r = refl
-  unless-refused ManyExtraBits f r = refl
-  unless-refused ShortSlice f r = refl
-  unless-refused BadReport f r = refl
-  unless-refused NoRegister f r = refl
-  unless-refused Locked f r = refl
-  unless-refused OnlyReads f r = refl
-
-  module _ (n : ℕ) (v : Verdict) (f : ℕ → A) (r : A) (e : verdictNumber v ≡ n) where
-    pub when-refused : (x : A) (why : Refusal) → v ≡ Refused why → x ≡ f (refusalNumber why) → x ≡ unless n f r
-    when-refused x why h l =
-        l ∙ sym (unless-refused why f r) ∙ ap (λ (k : ℕ). unless k f r) (sym (ap verdictNumber h) ∙ e)
-
-    pub when-allowed : (x : A) → v ≡ Allowed → x ≡ r → x ≡ unless n f r
-    unfolding unless
-    when-allowed x h l = l ∙ ap (λ (k : ℕ). unless k f r) (sym (ap verdictNumber h) ∙ e)
-
--- .. of an act that touches memory
-module _ {A : Type 0} (n : ℕ) (v : Verdict) (f : ℕ → Bus A) (p : Bus A) (m : List ℕ) (l : Ended A) (e : verdictNumber v ≡ n) where
-  pub run-refused : (why : Refusal) → v ≡ Refused why → run (f (refusalNumber why)) m ≡ l → run (unless n f p) m ≡ l
-  run-refused why h k = sym (ap (λ (q : Bus A). run q m) (when-refused n v f p e _ why h refl)) ∙ k
-
-  pub run-allowed : v ≡ Allowed → run p m ≡ l → run (unless n f p) m ≡ l
-  run-allowed h k = sym (ap (λ (q : Bus A). run q m) (when-allowed n v f p e _ h refl)) ∙ k
-
-pub ruleset verdicts = (when-refused, when-allowed, run-refused, run-allowed)
-
--- CSR3 takes what it keeps
-pub csr3-kept : (c d : Card) (v k : ℕ) (m : List ℕ) → k ≡ keptByCsr3 v → d ≡ withRegisters c (c .rap) (c .csr1) (c .csr2) k
-    → run (done (withRegisters c (c .rap) (c .csr1) (c .csr2) (keptByCsr3 v))) m ≡ record { answer = d; memory = m }
-csr3-kept c d v k m e f = run-gives _ _ m (f ∙ ap (withRegisters c (c .rap) (c .csr1) (c .csr2)) e)
+-- .. with a value that is
+pub replied-value : (r : Reply) (c : Card) (v w : ℕ) (a : Answer) → v ≡ w → a ≡ does v → r ≡ replied c a → r ≡ replied c (does w)
+replied-value r c v w a ev ea e = replied-as r c c a (does w) refl (ea ∙ ap does ev) e
 
 -- a write that isn't refused
-pub wrote : (p : Bus Card) (m : List ℕ) (d : Card) (t : Told) → run p m ≡ record { answer = d; memory = m }
-    → told t ≡ replied d (Done 0)
-    → run (p >>= (λ x. done (replied x (Done 0)))) m ≡ record { answer = told t; memory = m }
-wrote p m d t r e = after p (λ x. done (replied x (Done 0))) m m d r ∙ run-gives _ _ m (told-done t d d 0 0 refl refl e)
+pub wrote : (p : Bus Card) (m : List ℕ) (d : Card) (a : Answer) (r : Reply) → run p m ≡ record { answer = d; memory = m } → a ≡ does 0
+    → r ≡ replied d a → run (p >>= (λ x. done (replied x (does 0)))) m ≡ record { answer = r; memory = m }
+wrote p m d a r h ea e = after p (λ x. done (replied x (does 0))) m m d h ∙ run-gives _ _ m (replied-as r d d a (does 0) refl ea e)
 
--- the first test that refuses, as the code finds it: `search tests`
-module _ (n : ℕ) (ts : List Test) where
-  pub first-refuses : (t b : Bool) → t ≡ b → t ≡ true → n ≡ first (n refuses-if b ∷ ts)
-  unfolding first
-  first-refuses t b e h = if-true b n n (first ts) (sym e ∙ h) refl
+-- what a number decides: `search numbers`
+module _ {A : Type 0} (k n : ℕ) (f : ℕ → A) (r x : A) (e : k ≡ n) where
+  pub when-refused : (k ≡ 0 → ⊥) → x ≡ f k → x ≡ unless n f r
+  unfolding unless
+  when-refused h l = go n e
+    where
+      go : (j : ℕ) → k ≡ j → x ≡ unless j f r
+      go zero q = absurd (h q)
+      go (suc j) q = l ∙ ap f q
 
-  pub first-passes : (t b : Bool) (k : ℕ) → t ≡ b → t ≡ false → k ≡ first ts → k ≡ first (n refuses-if b ∷ ts)
-  unfolding first
-  first-passes t b k e h l = if-false b k n (first ts) (sym e ∙ h) l
+  pub when-allowed : k ≡ 0 → x ≡ r → x ≡ unless n f r
+  unfolding unless
+  when-allowed h l = l ∙ ap (λ (j : ℕ). unless j f r) (sym h ∙ e)
 
-  pub first-unsound : (t b : Bool) → t ≡ b → not t ≡ true → n ≡ first (n refuses-if not b ∷ ts)
-  first-unsound t b e h = first-refuses (not t) (not b) (ap not e) h
+-- .. of an act that touches memory, or hands a frame out
+module _ {A : Type 0} (k n : ℕ) (f : ℕ → Bus A) (p : Bus A) (m : List ℕ) (e : k ≡ n) where
+  pub run-refused : (l : Ended A) → (k ≡ 0 → ⊥) → run (f k) m ≡ l → run (unless n f p) m ≡ l
+  run-refused l h q = sym (ap (λ (x : Bus A). run x m) (when-refused k n f p (f k) e h refl)) ∙ q
 
-  pub first-sound : (t b : Bool) (k : ℕ) → t ≡ b → not t ≡ false → k ≡ first ts → k ≡ first (n refuses-if not b ∷ ts)
-  first-sound t b k e h l = first-passes (not t) (not b) k (ap not e) h l
+  pub run-allowed : (l : Ended A) → k ≡ 0 → run p m ≡ l → run (unless n f p) m ≡ l
+  run-allowed l h q = sym (ap (λ (x : Bus A). run x m) (when-allowed k n f p p e h refl)) ∙ q
 
-  pub first-over : (a b : ℕ) → a < b → n ≡ first (n refuses-if ltb a b ∷ ts)
-  first-over a b h = first-refuses true (ltb a b) (sym (lt-ltb a b h)) refl
+module _ {A : Type 0} (k n : ℕ) (f : ℕ → Bus (Handed A)) (p : Bus (Handed A)) (m out : List ℕ) (l : Left A) (e : k ≡ n) where
+  pub leaves-refused : (k ≡ 0 → ⊥) → leaves (run (f k) m) out ≡ l → leaves (run (unless n f p) m) out ≡ l
+  leaves-refused h q = ap (λ (x : Ended (Handed A)). leaves x out) (run-refused k n f p m e _ h refl) ∙ q
 
-  pub first-within : (a b k : ℕ) → b ≤ a → k ≡ first ts → k ≡ first (n refuses-if ltb a b ∷ ts)
-  first-within a b k h l = first-passes false (ltb a b) k (sym (le-ltb a b h)) refl l
+  pub leaves-allowed : k ≡ 0 → leaves (run p m) out ≡ l → leaves (run (unless n f p) m) out ≡ l
+  leaves-allowed h q = ap (λ (x : Ended (Handed A)). leaves x out) (run-allowed k n f p m e _ h refl) ∙ q
 
-pub first-none : 0 ≡ first []
-unfolding first
-first-none = refl
+pub ruleset numbers = (when-refused, when-allowed, run-refused, run-allowed, leaves-refused, leaves-allowed)
 
-pub ruleset tests = (first-refuses, first-passes, first-unsound, first-sound, first-over, first-within, first-none)
+-- nothing is handed out
+pub leaves-empty : {A : Type 0} (m out : List ℕ) (r s : A) → s ≡ r → leaves (run (done (emptyHanded r)) m) out ≡ record { answer = s; memory = m; out = out }
+unfolding leaves emptyHanded run
+leaves-empty m out r s e = ap (λ (x : _). record { answer = x; memory = m; out = out }) (sym e)
+
+-- the written registers take what they keep
+pub written-as : (c d : Card) (w k : Written) (m : List ℕ) → k ≡ w → d ≡ withWritten c k → run (done (withWritten c w)) m ≡ record { answer = d; memory = m }
+written-as c d w k m e f = run-gives _ _ m (f ∙ ap (λ (x : Written). withWritten c x) e)

@@ -5,25 +5,37 @@ use mathlib.Core.List.{List}
 use Prim.Native.Nat.{ℕ, _+_, _/_, _%_, _≤_, _<_}
 use lib.ListN.{length, getD}
 use borrow.Author.Tests.{le-leb, lt-leb}
-use Rattle.bus.specs.Bus.{run, done, words, wordsAt}
+use Rattle.bus.specs.Words.{bytesOf, wordsAt}
+use Rattle.bus.specs.Bus.{run, done, words}
 use Rattle.bus.proofs.Run.{run-gives, way-true, way-false, way-eq, way-ne, run-words, after}
 use Rattle.ring.specs.declared.Ring.{Ring}
-use Rattle.ring.specs.Loading.{ringFrom}
+use Rattle.ring.specs.Loading.{fromWords}
 use Rattle.registers.specs.declared.Csr0.{Csr0}
 use Rattle.registers.specs.Bits.{IDON, STOP, INIT}
-use Rattle.registers.specs.Csr0.{stopped, change}
-use Rattle.registers.specs.Writing.{ones, finished}
+use Rattle.registers.specs.Csr0.{stopped, changed}
+use Rattle.registers.specs.Writing.{cleared, finished}
 use Rattle.card.specs.declared.Card.{Card}
 use Rattle.card.specs.declared.Tried.{Tried}
-use Rattle.card.specs.State.{withCsr0}
-use Rattle.card.specs.Initialization.{blockAddress, withLoaded, succeeded, failed, tried, initialization, initIfAsked, writeCsr0}
+use Rattle.card.specs.State.{stateOf, with, withCsr0}
+use Rattle.card.specs.Initialization.{blockAddress, loadedFrom, succeeded, failed, tried, initialization, initIfAsked, writeCsr0}
 
 -- what an initialization loads
-pub loads : (c : Card) (ws : List ℕ) (s : Csr0) (rx tx : Ring) → s ≡ change (c .csr0) (IDON + INIT) STOP
-    → rx ≡ ringFrom (getD ws 8 0) (getD ws 9 0) → tx ≡ ringFrom (getD ws 10 0) (getD ws 11 0)
-    → withLoaded c s ws rx tx ≡ succeeded c ws
-unfolding succeeded
-loads c ws s rx tx es er et = λ i. withLoaded c (es i) ws (er i) (et i)
+pub loads : (c : Card) (ws a f : List ℕ) (s : Csr0) (rx tx : Ring) → s ≡ changed (c .csr0) (IDON + INIT) STOP
+    → a ≡ loadedFrom ws .address → f ≡ loadedFrom ws .filter → rx ≡ fromWords (getD ws 8 0) (getD ws 9 0) → tx ≡ fromWords (getD ws 10 0) (getD ws 11 0)
+    → record {
+      csr0 = s;
+      written = c .written;
+      missed = c .missed;
+      initialized = true;
+      mode = getD ws 0 0;
+      address = a;
+      filter = f;
+      receive = rx;
+      transmit = tx;
+    }
+    ≡ succeeded c ws
+unfolding succeeded with loadedFrom stateOf
+loads c ws a f s rx tx es ea ef er et = rw (es, ea, ef, er, et)
 
 module _ (c : Card) (m : List ℕ) where
   -- a block that isn't wholly inside
@@ -51,7 +63,7 @@ module _ (c : Card) (m : List ℕ) where
     write-stops s d t e f = way-eq _ _ m _ _ _ t (run-gives _ _ m (f ∙ ap (withCsr0 c) e))
 
     -- no STOP
-    pub write-goes : (s s′ : Csr0) (c′ d : Card) (t : Tried) → (v / STOP % 2 ≡ 1 → ⊥) → s ≡ ones (c .csr0) v → c′ ≡ withCsr0 c s
+    pub write-goes : (s s′ : Csr0) (c′ d : Card) (t : Tried) → (v / STOP % 2 ≡ 1 → ⊥) → s ≡ cleared (c .csr0) v → c′ ≡ withCsr0 c s
         → run (initIfAsked c′ (length m) v) m ≡ record { answer = t; memory = m }
         → s′ ≡ finished (t .card .csr0) (t .card .mode) (t .ready) v → d ≡ withCsr0 (t .card) s′
         → run (writeCsr0 c (length m) v) m ≡ record { answer = d; memory = m }

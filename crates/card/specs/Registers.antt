@@ -1,23 +1,17 @@
--- "Registers": which there are, and what each shows.
+-- "Registers": what each of the table shows.
 use Prim.Native.Nat.{ℕ, _+_, _-_, _*_, _/_, _%_}
-use mathlib.Core.Bool.{Bool, not, _&&_}
 use lib.ListN.{getD}
 use lib.Dec.{eqb, ltb}
 use Rattle.bus.specs.Choice.{if_then_else_}
-use Rattle.ring.specs.Ring.{counterOf, lengthCounter}
-use Rattle.registers.specs.Csr0.{wordOf}
-use Rattle.registers.specs.Map.{RDP, free}
+use Rattle.bus.specs.Words.{joined}
+use Rattle.ring.specs.Slots.{slotShown, lengthShown}
+use Rattle.registers.specs.Csr0.{word}
 use Rattle.card.specs.declared.Card.{Card}
-
--- 6: "All but 0, 88, 89, 112 are locked while STOP is clear."
-unfoldable pub locked : Card → ℕ → Bool
-locked c offset =
-    eqb offset RDP && not (c .csr0 .stop) && not (free (c .rap))
 
 -- CSR0 to CSR3
 unfoldable pub controlWord : Card → ℕ → ℕ
 controlWord c r =
-    if eqb r 0 then wordOf (c .csr0) (c .csr3) else if eqb r 1 then c .csr1 else if eqb r 2 then c .csr2 else c .csr3
+    if eqb r 0 then word (c .csr0) (c .written .csr3) else if eqb r 1 then c .written .csr1 else if eqb r 2 then c .written .csr2 else c .written .csr3
 
 -- "CSR8 to 15 (filter, address, mode)"
 unfoldable pub stationWord : Card → ℕ → ℕ
@@ -25,7 +19,7 @@ stationWord c r =
     if ltb r 12
     then getD (c .filter) (r - 8) 0
     else if ltb r 15
-    then getD (c .address) (2 * (r - 12)) 0 + 256 * getD (c .address) (2 * (r - 12) + 1) 0
+    then joined (getD (c .address) (2 * (r - 12)) 0) (getD (c .address) (2 * (r - 12) + 1) 0)
     else c .mode
 
 -- "24/25 and 30/31 (ring bases)"
@@ -43,12 +37,12 @@ baseWord c r =
 unfoldable pub counterWord : Card → ℕ → ℕ
 counterWord c r =
     if eqb r 72
-    then counterOf (c .receive .length) (c .receive .slot) .0
+    then slotShown (c .receive) (c .receive .slot) .0
     else if eqb r 74
-    then counterOf (c .transmit .length) (c .transmit .slot) .0
+    then slotShown (c .transmit) (c .transmit .slot) .0
     else if eqb r 76
-    then lengthCounter (c .receive .length) .0
-    else lengthCounter (c .transmit .length) .0
+    then lengthShown (c .receive) .0
+    else lengthShown (c .transmit) .0
 
 -- "88/89 (chip ID), 112 (missed frames, ..)"; "CSR88 is 3003h, CSR89 is 0000h"
 unfoldable pub otherWord : Card → ℕ → ℕ

@@ -4,11 +4,11 @@ use Prim.Native.Nat.{ℕ, zero, suc}
 use mathlib.Core.Bool.{Bool, true, not, _&&_}
 use mathlib.Core.List.{List}
 use lib.ListN.{getD}
-use lib.Dec.{eqb, ltb}
+use lib.Dec.{eqb}
 use Rattle.bus.specs.Choice.{if_then_else_}
 use Rattle.ring.specs.Loading.{unloaded, loaded}
 use Rattle.registers.specs.Csr0.{soundCsr0}
-use Rattle.registers.specs.Map.{keptByCsr3}
+use Rattle.registers.specs.Table.{settled}
 use Rattle.card.specs.declared.Card.{Card}
 
 -- the first k of some numbers are 0
@@ -31,4 +31,4 @@ fitting c = if c .initialized then afterwards c else before c
 
 -- the whole sentence
 unfoldable pub sound : Card → Bool
-sound c = soundCsr0 (c .csr0) && ltb (c .rap) 128 && eqb (keptByCsr3 (c .csr3)) (c .csr3) && fitting c
+sound c = soundCsr0 (c .csr0) && settled (c .written) && fitting c

@@ -8,7 +8,8 @@ use native.Mathlib.Omega.{arith}
 use lib.ListN.{length, take, drop, take-append-drop, length-drop}
 use lib.Seq.{drop-drop, length-take-le}
 use lib.Bits.{bitXor, xor-block, xor-lt}
-use Rattle.fcs.specs.Fcs.{shifts, register, registerOf, little}
+use Rattle.bus.specs.Words.{little}
+use Rattle.fcs.specs.Fcs.{shifts, register, registerOf}
 use Rattle.fcs.specs.Waiting.{words, after}
 use Rattle.fcs.proofs.Xor.{xor, assoc, comm}
 use Rattle.fcs.proofs.Shifts.{shifts-xor, shifts-add, shifts-join}

@@ -9,7 +9,8 @@ use borrow.Author.Tests.{lt-leb, le-leb}
 use lib.ListN.{length, take, drop, length-drop}
 use lib.Seq.{take-all}
 use lib.Dec.{eqb}
-use Rattle.fcs.specs.Fcs.{fcsOf, little, both, rightFcs}
+use Rattle.bus.specs.Words.{little}
+use Rattle.fcs.specs.Fcs.{fcsOf, both, rightFcs}
 
 pub too-short : (f : List ℕ) → length f < 4 → false ≡ rightFcs f
 unfolding rightFcs both

@@ -1,4 +1,4 @@
--- The laws that the proofs of this crate cite.
+-- The laws that the proofs of this crate cite, and what is proved of its contracts.
 pub mod Xor
 pub mod Shifts
 pub mod Entries
@@ -7,3 +7,4 @@ pub mod Frames
 pub mod Folds
 pub mod Afters
 pub mod Places
+pub mod One

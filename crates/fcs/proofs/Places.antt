@@ -9,7 +9,7 @@ use lib.ListN.{length, take, drop}
 use lib.Bits.{bitXor, xor-block, xor-lt}
 use lib.Pow.{split, pow-pos, pow-add, shr-le}
 use Rattle.fcs.specs.Waiting.{words, after}
-use Rattle.fcs.specs.Fcs.{little}
+use Rattle.bus.specs.Words.{little}
 use Rattle.fcs.proofs.Registers.{Bytes}
 use Rattle.fcs.proofs.Afters.{after-fold, word-lt}
 use Rattle.fcs.proofs.Xor.{xor, comm}

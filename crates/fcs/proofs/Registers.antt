@@ -11,7 +11,8 @@ use lib.Arith.{digits-lt}
 use lib.Bits.{bitXor}
 use mir.Syntax.{w8}
 use mir.Val.{Fits}
-use Rattle.fcs.specs.Fcs.{shifts, enter, register, little}
+use Rattle.bus.specs.Words.{little}
+use Rattle.fcs.specs.Fcs.{shifts, enter, register}
 use Rattle.fcs.proofs.Xor.{xor, assoc, comm, zero-left, joined}
 use Rattle.fcs.proofs.Shifts.{shifts-xor, shifts-add, shifts-up}
 

@@ -6,6 +6,7 @@ use mathlib.Core.List.{List, [], _∷_}
 use lib.ListN.{length, take, drop}
 use lib.Dec.{leb, eqb}
 use lib.Bits.{bitXor}
+use Rattle.bus.specs.Words.{little}
 
 -- the polynomial EDB88320h, lowest power at the top, comes in when a one falls out
 unfoldable pub fallen : ℕ → ℕ
@@ -37,11 +38,6 @@ registerOf bs = register 0xFFFFFFFF bs
 -- the FCS: the register inverted
 unfoldable pub fcsOf : List ℕ → ℕ
 fcsOf bs = 0xFFFFFFFF - registerOf bs
-
--- the number that some bytes stand for, low byte first
-unfoldable pub little : List ℕ → ℕ
-little [] = 0
-little (b ∷ bs) = b + 256 * little bs
 
 -- both of two tests
 unfoldable pub both : Bool → Bool → Bool

@@ -4,7 +4,8 @@ use mathlib.Core.List.{List, [], _∷_}
 use lib.ListN.{length}
 use lib.Bits.{bitXor}
 use Rattle.fcs.specs.declared.fold.Waiting.{Waiting}
-use Rattle.fcs.specs.Fcs.{shifts, little}
+use Rattle.bus.specs.Words.{little}
+use Rattle.fcs.specs.Fcs.{shifts}
 
 -- the number that words of 64 bits stand for, low word first
 unfoldable pub words : List ℕ → ℕ

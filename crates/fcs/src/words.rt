@@ -2,7 +2,8 @@
 ghost use mathlib.Core.Path.{_≡_};
 ghost use Prim.Native.Nat.{_+_, _≤_, _<_};
 ghost use lib.ListN.{length, take, drop};
-ghost use Rattle.fcs.specs.Fcs.{register, little};
+ghost use Rattle.bus.specs.Words.{little};
+ghost use Rattle.fcs.specs.Fcs.{register};
 ghost use Rattle.fcs.specs.Steps.{Steps};
 use crate::table::shifted;
 

@@ -8,6 +8,8 @@ use Rattle.ring.proofs.Ring.slot_shown.Reads as slot-shown
 use Rattle.ring.proofs.Ring.length_shown.Reads as length-shown
 use Rattle.ring.proofs.Ring.slots.Reads as slots
 use Rattle.ring.proofs.Ring.moved.Reads as moved
+use Rattle.ring.proofs.Ring.ring_words.Reads as ring-words
+use Rattle.ring.proofs.Ring.ring_of.Reads as ring-of
 use Rattle.ring.proofs.Ring.next.Reads as next
 use Rattle.ring.proofs.Ring.place.Reads as place
 use Rattle.ring.proofs.described.Reads as described
@@ -60,3 +62,10 @@ one-described κs a r s e f = equation
 -- what stands at a slot
 pub one-look : Only look.Post
 one-look κs a r s e f p q = ended p q .0
+
+-- a ring as words, and back
+pub one-ring-words : Only ring-words.Post
+one-ring-words κs a r s e f = equation
+
+pub one-ring-of : Only ring-of.Post
+one-ring-of κs a r s e f = equation

@@ -1,5 +1,6 @@
 -- A ring's slots, and the counters by which registers show them.
-use Prim.Native.Nat.{ℕ, _+_, _-_, _*_, _%_}
+use Prim.Native.Nat.{ℕ, _+_, _-_, _*_, _/_, _%_}
+use mathlib.Core.List.{List, [], _∷_}
 use lib.Dec.{ltb}
 use Rattle.bus.specs.Choice.{if_then_else_}
 use Rattle.ring.specs.declared.Slot.{Slot}
@@ -29,3 +30,10 @@ place r i = r .base + 8 * i .0
 -- the ring with another current slot
 abbrev pub moved : Ring → Slot → Ring
 moved r i = record { base = r .base; length = r .length; slot = i }
+
+-- a ring as four words of sixteen bits, and back: base low and high, length, slot
+abbrev pub ringWords : Ring → List ℕ
+ringWords r = r .base % 65536 ∷ (r .base / 65536 % 65536 ∷ (r .length ∷ (r .slot .0 ∷ [])))
+
+abbrev pub ringOf : ℕ → ℕ → ℕ → ℕ → Ring
+ringOf low high n i = record { base = low + 65536 * high; length = n; slot = record { 0 = i } }

@@ -4,7 +4,7 @@ ghost use Prim.Native.Nat.{_+_, _*_, _≤_, _<_};
 ghost use lib.ListN.{length};
 ghost use Rattle.bus.specs.Words.{joined, part};
 ghost use Rattle.bus.specs.Bus.{run};
-ghost use Rattle.ring.specs.Slots.{slots, slotShown, lengthShown, next, place, moved};
+ghost use Rattle.ring.specs.Slots.{slots, slotShown, lengthShown, next, place, moved, ringWords, ringOf};
 ghost use Rattle.ring.specs.Loading.{none, fromWords, keptByBase, isLength, unloaded, loaded};
 ghost use Rattle.ring.specs.Descriptor.{countOf, described, look};
 
@@ -139,6 +139,29 @@ impl Ring {
     {
         self.slot = slot;
         self
+    }
+
+    // The ring as four words: base low and high, length, slot.
+    pub fn ring_words(self) -> [u16; 4]
+        ensures { λ r. ⌜ r ≡ ringWords self ⌝ }
+    {
+        [
+            (self.base % 65536) as u16,
+            (self.base / 65536 % 65536) as u16,
+            self.length,
+            self.slot.0,
+        ]
+    }
+
+    // The ring of four words.
+    pub fn ring_of(low: u16, high: u16, length: u16, slot: u16) -> Ring
+        ensures { λ r. ⌜ r ≡ ringOf low high length slot ⌝ }
+    {
+        Ring {
+            base: low as u32 + 65536 * (high as u32),
+            length,
+            slot: Slot(slot),
+        }
     }
 }
 

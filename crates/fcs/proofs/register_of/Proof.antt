@@ -1,4 +1,4 @@
--- `fcs::register_of` meets its contract, on both ways.
+-- `fcs::register_of` meets its contract: on both ways it is what the function called ensures, from all ones on.
 -- Assumes nothing.
 use borrow.Author.Needs.{needs}
 use Rattle.fcs.specs.Fcs.{registerOf}

@@ -1,4 +1,4 @@
--- `tally::with` meets its contract: by the answer.
+-- `tally::with` meets its contract: one law for a right answer, one for a wrong one.
 use borrow.Author.Needs.{needs}
 use Rattle.tally.proofs.Counts.{a-right-one, a-wrong-one}
 use Rattle.tally.proofs.with.Statement.{statement}

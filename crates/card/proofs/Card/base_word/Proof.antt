@@ -1,3 +1,4 @@
+-- `base_word`: the register's number decides.
 use Rattle.card.specs.Registers.{baseWord}
 use Rattle.bus.proofs.Choices.{choices}
 use borrow.Author.Needs.{needs}

@@ -1,3 +1,4 @@
+-- `control_word`: the register's number decides.
 use Rattle.card.specs.Registers.{controlWord}
 use Rattle.bus.proofs.Choices.{choices}
 use borrow.Author.Needs.{needs}
@@ -15,9 +16,6 @@ returns-2 : tie.Need-returns-2
 unfolding controlWord
 returns-2 c = search choices
 
-cast-result : tie.Need-cast-result
-cast-result c = search needs
-
 returns-3 : tie.Need-returns-3
 unfolding controlWord
 returns-3 c = search choices
@@ -27,5 +25,4 @@ unfolding controlWord
 returns-4 c = search choices
 
 pub control-word-spec : {M : Type 1} → statement M
-control-word-spec =
-    tie.close (tie.spec word-requires returns returns-2 cast-result returns-3 returns-4)
+control-word-spec = tie.close (tie.spec word-requires returns returns-2 returns-3 returns-4)

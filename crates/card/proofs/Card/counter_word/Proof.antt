@@ -1,5 +1,6 @@
-use Rattle.card.proofs.Answering.{same-counter}
+-- `counter_word`: the register's number decides.
 use Rattle.card.specs.Registers.{counterWord}
+use Rattle.card.proofs.Showing.{same-counter}
 use Rattle.bus.proofs.Choices.{choices}
 use borrow.Author.Needs.{needs}
 use Rattle.card.proofs.Card.counter_word.Statement.{statement}

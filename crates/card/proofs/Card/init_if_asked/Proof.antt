@@ -1,11 +1,12 @@
+-- `init_if_asked`: INIT acts, or not.
 use Rattle.card.specs.Initialization.{initIfAsked, tried}
 use Rattle.bus.proofs.Run.{ways}
 use borrow.Author.Needs.{needs}
 use Rattle.card.proofs.Card.init_if_asked.Statement.{statement}
 use Rattle.card.proofs.Card.init_if_asked.Tie as tie
 
-initialize-requires : tie.Need-initialize-requires
-initialize-requires c κs = search needs
+initialization-requires : tie.Need-initialization-requires
+initialization-requires c κs = search needs
 
 returns : tie.Need-returns
 unfolding initIfAsked
@@ -16,4 +17,4 @@ unfolding initIfAsked tried
 returns-2 c = search ways
 
 pub init-if-asked-spec : {M : Type 1} → statement M
-init-if-asked-spec = tie.close (tie.spec initialize-requires returns returns-2)
+init-if-asked-spec = tie.close (tie.spec initialization-requires returns returns-2)

@@ -1,3 +1,4 @@
+-- `is_afterwards`: both rings.
 use Rattle.card.specs.Sound.{afterwards}
 use borrow.Author.Needs.{needs}
 use Rattle.card.proofs.Card.is_afterwards.Statement.{statement}

@@ -1,3 +1,4 @@
+-- `is_before`: test by test.
 use Rattle.card.specs.Sound.{before, zeros}
 use borrow.Author.Needs.{needs}
 use Rattle.card.proofs.Card.is_before.Statement.{statement}

@@ -1,5 +1,6 @@
-use Rattle.bus.proofs.Choices.{if-true, if-false}
+-- `is_fitting`: by whether there was an initialization.
 use Rattle.card.specs.Sound.{fitting}
+use Rattle.bus.proofs.Choices.{if-true, if-false}
 use borrow.Author.Needs.{needs}
 use Rattle.card.proofs.Card.is_fitting.Statement.{statement}
 use Rattle.card.proofs.Card.is_fitting.Tie as tie

@@ -1,13 +1,14 @@
+-- `is_sound`: test by test.
 use Rattle.card.specs.Sound.{sound}
 use borrow.Author.Needs.{needs}
 use Rattle.card.proofs.Card.is_sound.Statement.{statement}
 use Rattle.card.proofs.Card.is_sound.Tie as tie
 
-kept-by-csr3-requires : tie.Need-kept-by-csr3-requires
-kept-by-csr3-requires c κs = search needs
+is-sound-csr0-requires : tie.Need-is-sound-csr0-requires
+is-sound-csr0-requires c κs = search needs
 
-is-sound-requires : tie.Need-is-sound-requires
-is-sound-requires c κs = search needs
+is-settled-requires : tie.Need-is-settled-requires
+is-settled-requires c κs = search needs
 
 is-fitting-requires : tie.Need-is-fitting-requires
 is-fitting-requires c κs = search needs
@@ -18,4 +19,4 @@ returns c = cc
 
 pub is-sound-spec : {M : Type 1} → statement M
 is-sound-spec =
-    tie.close (tie.spec kept-by-csr3-requires is-sound-requires is-fitting-requires returns)
+    tie.close (tie.spec is-sound-csr0-requires is-settled-requires is-fitting-requires returns)

@@ -1,3 +1,4 @@
+-- `other_word`: the register's number decides.
 use Rattle.card.specs.Registers.{otherWord}
 use Rattle.bus.proofs.Choices.{choices}
 use Rattle.card.proofs.Card.other_word.Statement.{statement}

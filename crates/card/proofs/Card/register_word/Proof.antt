@@ -1,3 +1,4 @@
+-- `register_word`: the register's number decides.
 use Rattle.card.specs.Registers.{registerWord}
 use Rattle.bus.proofs.Choices.{choices}
 use borrow.Author.Needs.{needs}

@@ -1,3 +1,4 @@
+-- `station_word`: the register's number decides.
 use Rattle.card.specs.Registers.{stationWord}
 use Rattle.bus.proofs.Choices.{choices}
 use borrow.Author.Needs.{needs}

@@ -1,4 +1,5 @@
-use Rattle.card.proofs.Arriving.{took-in}
+-- `take_in`: the walk, then what it leaves.
+use Rattle.card.proofs.Happening.{took-in}
 use borrow.Author.Needs.{needs}
 use Rattle.card.proofs.Card.take_in.Statement.{statement}
 use Rattle.card.proofs.Card.take_in.Tie as tie
@@ -6,11 +7,11 @@ use Rattle.card.proofs.Card.take_in.Tie as tie
 right-fcs-requires : tie.Need-right-fcs-requires
 right-fcs-requires c κs = search needs
 
-walk-ring-requires : tie.Need-walk-ring-requires
-walk-ring-requires c κs = search needs
+walk-requires : tie.Need-walk-requires
+walk-requires c κs = search needs
 
-arrive-end-requires : tie.Need-arrive-end-requires
-arrive-end-requires c κs = search needs
+arrived-requires : tie.Need-arrived-requires
+arrived-requires c κs = search needs
 
 same-length : tie.Need-same-length
 same-length c = search needs
@@ -20,5 +21,4 @@ returns c = search took-in
 
 pub take-in-spec : {M : Type 1} → statement M
 take-in-spec =
-    tie.close
-    (tie.spec right-fcs-requires walk-ring-requires arrive-end-requires same-length returns)
+    tie.close (tie.spec right-fcs-requires walk-requires arrived-requires same-length returns)

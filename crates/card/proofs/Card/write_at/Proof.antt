@@ -1,6 +1,8 @@
-use borrow.Author.Needs.{needs}
+-- `write_at`: the offset decides.
 use Rattle.card.specs.Acts.{writeAt}
 use Rattle.bus.proofs.Run.{ways}
+use Rattle.card.proofs.Answering.{written-as}
+use borrow.Author.Needs.{needs}
 use Rattle.card.proofs.Card.write_at.Statement.{statement}
 use Rattle.card.proofs.Card.write_at.Tie as tie
 
@@ -11,15 +13,15 @@ returns : tie.Need-returns
 unfolding writeAt
 returns c = search ways
 
-cast-with-registers : tie.Need-cast-with-registers
-cast-with-registers c = search needs
+keep-requires : tie.Need-keep-requires
+keep-requires c κs = search needs
 
-with-registers-requires : tie.Need-with-registers-requires
-with-registers-requires c κs = search needs
+with-written-requires : tie.Need-with-written-requires
+with-written-requires c κs = search needs
 
 returns-2 : tie.Need-returns-2
 unfolding writeAt
-returns-2 c = search ways
+returns-2 c = search (ways, written-as)
 
 returns-3 : tie.Need-returns-3
 unfolding writeAt
@@ -31,7 +33,7 @@ write-at-spec =
     (tie.spec
     write-register-requires
     returns
-    cast-with-registers
-    with-registers-requires
+    keep-requires
+    with-written-requires
     returns-2
     returns-3)

@@ -1,4 +1,4 @@
--- The pattern stays within the frame, whose length stays.
+-- `vectors::frames::repeat` is safe and ends: the place stays within the slice, whose length stays, and what is left falls.
 use borrow.Author.Needs.{needs}
 use Prim.Native.Nat.{_≤_, _-_}
 use mathlib.Core.Path.{_≡_}

@@ -1,4 +1,4 @@
--- The rows end: there are 64 of them.
+-- `vectors::hashes::rows` is safe and ends: the row stays at most 64, and what is left falls.
 use borrow.Author.Needs.{needs}
 use Prim.Native.Nat.{_≤_, _-_}
 use Rattle.vectors.proofs.hashes.rows.Statement.{statement}

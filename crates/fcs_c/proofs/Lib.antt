@@ -1,0 +1,2 @@
+-- What is proved of this crate's contracts.
+pub mod One
