@@ -1,2 +1,3 @@
--- The laws that the proofs of this crate cite.
+-- The laws by which the proofs of this crate go, and that its contracts leave one answer.
 pub mod Entering
+pub mod One

@@ -2,125 +2,44 @@
 ghost use mathlib.Core.Path.{_≡_};
 ghost use Prim.Native.Nat.{_≤_};
 ghost use lib.ListN.{length};
-ghost use Rattle.bus.specs.Bits.{put};
-ghost use Rattle.bus.specs.Bus.{run};
-ghost use Rattle.card.specs.Answers.{numberOf, wordOf, valueOf, lengthOf, told};
-ghost use Rattle.am79c960.specs.Entries.{packed, given, resetEntry, readEntry, writeEntry, arriveEntry, turnEntry, sends};
-use card::Answer;
-use card::Told;
+ghost use Rattle.bus.specs.Bits.{weigh};
+ghost use Rattle.bus.specs.Bus.{run, leaves};
+ghost use Rattle.am79c960.specs.Entries.{packed, given, resetEntry, readEntry, writeEntry, arriveEntry, turnEntry};
+use card::Card;
+use card::Reply;
+use transmit::Report;
 
-// The table's number of an answer, or 0.
-fn number_of(answer: Answer) -> u8
-    ensures { λ r. ⌜ r ≡ numberOf answer ⌝ }
-{
-    match answer {
-        Answer::Refused(why) => card::number(why),
-        Answer::Done(_) => 0,
-        Answer::Off => 0,
-        Answer::Runt => 0,
-        Answer::NotOurs => 0,
-        Answer::Missed => 0,
-        Answer::Received => 0,
-        Answer::Cut => 0,
-        Answer::Memory => 0,
-        Answer::Idle => 0,
-        Answer::Underflow => 0,
-        Answer::Failed => 0,
-        Answer::Sent(_) => 0,
-    }
-}
-
-// The word of an answer, or 0.
-fn word_of(answer: Answer) -> u8
-    ensures { λ r. ⌜ r ≡ wordOf answer ⌝ }
-{
-    match answer {
-        Answer::Refused(_) => 0,
-        Answer::Done(_) => 1,
-        Answer::Off => 2,
-        Answer::Runt => 3,
-        Answer::NotOurs => 4,
-        Answer::Missed => 5,
-        Answer::Received => 6,
-        Answer::Cut => 7,
-        Answer::Memory => 8,
-        Answer::Idle => 9,
-        Answer::Underflow => 10,
-        Answer::Failed => 11,
-        Answer::Sent(_) => 12,
-    }
-}
-
-// The value of a read, or 0.
-fn value_of(answer: Answer) -> u16
-    ensures { λ r. ⌜ r ≡ valueOf answer ⌝ }
-{
-    match answer {
-        Answer::Refused(_) => 0,
-        Answer::Done(n) => n,
-        Answer::Off => 0,
-        Answer::Runt => 0,
-        Answer::NotOurs => 0,
-        Answer::Missed => 0,
-        Answer::Received => 0,
-        Answer::Cut => 0,
-        Answer::Memory => 0,
-        Answer::Idle => 0,
-        Answer::Underflow => 0,
-        Answer::Failed => 0,
-        Answer::Sent(_) => 0,
-    }
-}
-
-// The length sent, or 0.
-fn length_of(answer: Answer) -> u16
-    ensures { λ r. ⌜ r ≡ lengthOf answer ⌝ }
-{
-    match answer {
-        Answer::Refused(_) => 0,
-        Answer::Done(_) => 0,
-        Answer::Off => 0,
-        Answer::Runt => 0,
-        Answer::NotOurs => 0,
-        Answer::Missed => 0,
-        Answer::Received => 0,
-        Answer::Cut => 0,
-        Answer::Memory => 0,
-        Answer::Idle => 0,
-        Answer::Underflow => 0,
-        Answer::Failed => 0,
-        Answer::Sent(n) => n,
-    }
-}
+// What is handed back for a block that does not open: the table's number, and the line low.
+const SHUT: u64 = 9;
 
 // What the line adds to the number handed back.
 fn line_bit(line: bool) -> u64
-    ensures { λ r. ⌜ (r ≡ put line 0x1000000000000) × (r ≤ 0x1000000000000) ⌝ }
+    ensures { λ r. ⌜ (r ≡ weigh line 0x1000000000000) × (r ≤ 0x1000000000000) ⌝ }
 {
     if line { 0x1000000000000 } else { 0 }
 }
 
-// What is told, in one number.
-fn pack(t: Told) -> u64
-    ensures { λ r. ⌜ r ≡ packed (told t) ⌝ }
+// A reply in one number.
+fn packed(r: Reply) -> u64
+    ensures { λ x. ⌜ x ≡ packed r ⌝ }
 {
-    let answer = t.answer;
-    let number = number_of(answer) as u64;
-    let word = word_of(answer) as u64;
-    let value = value_of(answer) as u64;
-    let length = length_of(answer) as u64;
-    number + 0x100 * word + 0x10000 * value + 0x100000000 * length + line_bit(t.line)
+    let answer = r.answer;
+    let number = answer.number as u64;
+    let word = answer.word as u64;
+    let value = answer.value as u64;
+    let length = answer.length as u64;
+    number + 0x100 * word + 0x10000 * value + 0x100000000 * length + line_bit(r.line)
 }
 
-// What is told is handed back, and its state stored where nothing is refused.
-fn settle(block: &mut [u8], t: Told) -> u64
+// A reply is handed back, and its state stored where nothing is refused.
+fn given(block: &mut [u8], r: Reply) -> u64
     requires { ⌜ length (now block) ≡ 512 ⌝ }
-    ensures { λ r. ⌜ given (now (block .entry)) (told t) ≡ record { result = r; block = now (block .exit) } ⌝ }
+    ensures { λ x. ⌜ given (now (block .entry)) r ≡ record { result = x; block = now (block .exit) } ⌝ }
 {
-    let answer = t.answer;
-    let card = t.card;
-    let result = pack(t);
-    if number_of(answer) == 0 {
+    let answer = r.answer;
+    let card = r.card;
+    let result = packed(r);
+    if answer.number == 0 {
         block::put_state(block, card);
         return result;
     }
@@ -132,11 +51,10 @@ fn settle(block: &mut [u8], t: Told) -> u64
 pub extern "C" fn am79c960_entry_reset(block: &mut [u8]) -> u64
     ensures { λ r. ⌜ resetEntry (now (block .entry)) ≡ record { result = r; block = now (block .exit) } ⌝ }
 {
-    if block.len() == 512 {
-        let card = block::state_in(block);
-        return settle(block, card.reset());
+    if block.len() == block::BYTES {
+        return given(block, Card::fresh().reset());
     }
-    9
+    SHUT
 }
 
 // The act "register read".
@@ -146,9 +64,9 @@ pub extern "C" fn am79c960_entry_read(block: &mut [u8], offset: u32) -> u64
 {
     if block::is_open(block) {
         let card = block::state_in(block);
-        return settle(block, card.read(offset));
+        return given(block, card.read(offset));
     }
-    9
+    SHUT
 }
 
 // The act "register write".
@@ -163,9 +81,9 @@ pub extern "C" fn am79c960_entry_write(
 {
     if block::is_open(block) {
         let card = block::state_in(block);
-        return settle(block, card.write(memory, offset, (value % 65536) as u16));
+        return given(block, card.write(memory, offset, (value % 65536) as u16));
     }
-    9
+    SHUT
 }
 
 // The act "frame arrival".
@@ -180,9 +98,9 @@ pub extern "C" fn am79c960_entry_arrive(
 {
     if block::is_open(block) {
         let card = block::state_in(block);
-        return settle(block, card.arrive(memory, frame, extra));
+        return given(block, card.arrive(memory, frame, extra));
     }
-    9
+    SHUT
 }
 
 // The act "transmit turn".
@@ -191,15 +109,20 @@ pub extern "C" fn am79c960_entry_turn(
     block: &mut [u8],
     memory: &mut [u8],
     out: &mut [u8],
-    report: u32,
+    result: u32,
     deferred: bool,
-    quiet: bool,
+    noheartbeat: bool,
 ) -> u64
-    ensures { λ r. ⌜ sends (run (turnEntry (now (block .entry)) (length (now (memory .entry))) (length (now (out .entry))) report deferred quiet) (now (memory .entry))) (now (out .entry)) ≡ record { given = record { result = r; block = now (block .exit) }; memory = now (memory .exit); out = now (out .exit) } ⌝ }
+    ensures { λ r. ⌜ leaves (run (turnEntry (now (block .entry)) (length (now (memory .entry))) (length (now (out .entry))) (record { result = result; deferred = deferred; noheartbeat = noheartbeat })) (now (memory .entry))) (now (out .entry)) ≡ record { answer = record { result = r; block = now (block .exit) }; memory = now (memory .exit); out = now (out .exit) } ⌝ }
 {
     if block::is_open(block) {
         let card = block::state_in(block);
-        return settle(block, card.turn(memory, out, report, deferred, quiet));
+        let report = Report {
+            result,
+            deferred,
+            noheartbeat,
+        };
+        return given(block, card.turn(memory, out, report));
     }
-    9
+    SHUT
 }

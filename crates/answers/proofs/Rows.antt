@@ -1,24 +1,23 @@
 -- A row of the table of events, as the code writes it.
 use mathlib.Core.Path.{_≡_, sym, ap, _∙_}
 use mathlib.Core.Bool.{Bool}
-use Prim.Native.Nat.{ℕ, _+_}
-use lib.Dec.{leb}
-use Rattle.bus.specs.Bits.{weigh}
-use Rattle.registers.specs.Bits.{BABL, CERR, TINT, TDMD}
+use Prim.Native.Nat.{ℕ}
+use Rattle.receive.specs.declared.Ending.{Ending}
 use Rattle.transmit.specs.declared.Outcome.{Outcome}
-use Rattle.transmit.specs.declared.Outcome.the-variants.{Sent}
 use Rattle.answers.specs.declared.Answer.{Answer}
 use Rattle.answers.specs.declared.Event.{Event}
-use Rattle.answers.specs.Answers.{sent}
-use Rattle.answers.specs.Events.{turnEvent}
+use Rattle.answers.specs.Events.{sets, arrivalEvent, turnEvent}
 
-module _ (q : Bool) (o k : Outcome) (e : o ≡ k) (a b : Answer) (ea : a ≡ b) where
-  pub row-is : (on off : ℕ) → record { on = on; off = off; missed = 0; answer = b } ≡ turnEvent q k
-      → record { on = on; off = off; missed = 0; answer = a } ≡ turnEvent q o
-  row-is on off h = ap (λ (x : Answer). record { on = on; off = off; missed = 0; answer = x }) ea ∙ h ∙ ap (turnEvent q) (sym e)
+module _ (v : Event) (on off missed : ℕ) (a b : Answer) (ev : v ≡ sets on off missed a) (ea : a ≡ b) where
+  is : v ≡ sets on off missed b
+  is = ev ∙ ap (sets on off missed) ea
 
--- a frame that was handed out
-pub row-sent : (q : Bool) (o : Outcome) (n x y : ℕ) (a : Answer) → o ≡ Sent n → a ≡ sent n → x ≡ weigh q CERR → y ≡ weigh (leb 1519 n) BABL
-    → record { on = TINT + x + y; off = TDMD; missed = 0; answer = a } ≡ turnEvent q o
-unfolding turnEvent
-row-sent q o n x y a eo ea ex ey = rw (ex, ey) (row-is q o (Sent n) eo a (sent n) ea _ TDMD (λ i. turnEvent q (Sent n)))
+  pub arrival-row : (e k : Ending) → e ≡ k → sets on off missed b ≡ arrivalEvent k → v ≡ arrivalEvent e
+  arrival-row e k h l = is ∙ l ∙ ap arrivalEvent (sym h)
+
+  module _ (q : Bool) (o k : Outcome) (h : o ≡ k) where
+    pub turn-row : sets on off missed b ≡ turnEvent q k → v ≡ turnEvent q o
+    turn-row l = is ∙ l ∙ ap (turnEvent q) (sym h)
+
+    pub sent-row : (bits : ℕ) → on ≡ bits → sets bits off missed b ≡ turnEvent q k → v ≡ turnEvent q o
+    sent-row bits e l = turn-row (ap (λ (x : ℕ). sets x off missed b) e ∙ l)

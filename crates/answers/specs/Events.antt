@@ -9,23 +9,31 @@ use Rattle.receive.specs.declared.Ending.{Ending}
 use Rattle.receive.specs.declared.Ending.the-variants.{Memory, Missed, Received, Cut}
 use Rattle.transmit.specs.declared.Outcome.{Outcome}
 use Rattle.transmit.specs.declared.Outcome.the-variants.{Idle, OutOfMemory, Underflow, Failed, Sent}
+use Rattle.answers.specs.declared.Answer.{Answer}
 use Rattle.answers.specs.declared.Event.{Event}
 use Rattle.answers.specs.Answers.{MISSED, RECEIVED, CUT, MEMORY, IDLE, UNDERFLOW, FAILED, plain, sent}
+
+-- an event: the bits of CSR0 that it sets and clears, by how much CSR112 rises, and the answer
+abbrev pub sets : ℕ → ℕ → ℕ → Answer → Event
+sets on off missed a = record { on = on; off = off; missed = missed; answer = a }
 
 -- "outside memory, MERR", which "always clears RXON and TXON" and "answers "memory""; "OWN clear, MISS is set, CSR112 rises by one and
 -- the answer is "missed""; a frame that ends or is cut, RINT
 unfoldable pub arrivalEvent : Ending → Event
-arrivalEvent Memory = record { on = MERR; off = RXON + TXON; missed = 0; answer = plain MEMORY }
-arrivalEvent Missed = record { on = MISS; off = 0; missed = 1; answer = plain MISSED }
-arrivalEvent Received = record { on = RINT; off = 0; missed = 0; answer = plain RECEIVED }
-arrivalEvent Cut = record { on = RINT; off = 0; missed = 0; answer = plain CUT }
+arrivalEvent Memory = sets MERR (RXON + TXON) 0 (plain MEMORY)
+arrivalEvent Missed = sets MISS 0 1 (plain MISSED)
+arrivalEvent Received = sets RINT 0 0 (plain RECEIVED)
+arrivalEvent Cut = sets RINT 0 0 (plain CUT)
 
--- "Otherwise TDMD is cleared"; MERR as above; an underflow "clears TXON"; TINT with every chain that is given back; "No heartbeat sets
--- CERR on a frame handed out; 1,519 bytes or more handed out, FCS counted, set BABL"
+-- TINT with every chain that is given back; "No heartbeat sets CERR on a frame handed out; 1,519 bytes or more handed out, FCS counted,
+-- set BABL"
+abbrev pub sentBits : Bool → ℕ → ℕ
+sentBits noheartbeat n = TINT + weigh noheartbeat CERR + weigh (leb 1519 n) BABL
+
+-- "Otherwise TDMD is cleared"; MERR as above; an underflow "clears TXON"
 unfoldable pub turnEvent : Bool → Outcome → Event
-turnEvent noheartbeat Idle = record { on = 0; off = TDMD; missed = 0; answer = plain IDLE }
-turnEvent noheartbeat OutOfMemory = record { on = MERR; off = TDMD + RXON + TXON; missed = 0; answer = plain MEMORY }
-turnEvent noheartbeat Underflow = record { on = TINT; off = TDMD + TXON; missed = 0; answer = plain UNDERFLOW }
-turnEvent noheartbeat Failed = record { on = TINT; off = TDMD; missed = 0; answer = plain FAILED }
-turnEvent noheartbeat (Sent n) =
-    record { on = TINT + weigh noheartbeat CERR + weigh (leb 1519 n) BABL; off = TDMD; missed = 0; answer = sent n }
+turnEvent noheartbeat Idle = sets 0 TDMD 0 (plain IDLE)
+turnEvent noheartbeat OutOfMemory = sets MERR (TDMD + RXON + TXON) 0 (plain MEMORY)
+turnEvent noheartbeat Underflow = sets TINT (TDMD + TXON) 0 (plain UNDERFLOW)
+turnEvent noheartbeat Failed = sets TINT TDMD 0 (plain FAILED)
+turnEvent noheartbeat (Sent n) = sets (sentBits noheartbeat n) TDMD 0 (sent n)

@@ -2,3 +2,4 @@
 pub mod Answers
 pub mod Refusals
 pub mod Events
+pub mod Computed

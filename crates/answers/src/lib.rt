@@ -2,7 +2,7 @@
 ghost use mathlib.Core.Path.{_≡_};
 ghost use Rattle.answers.specs.Answers.{plain, done, sent, refusal};
 ghost use Rattle.answers.specs.Refusals.{readNumber, writeNumber, arriveNumber, turnNumber};
-ghost use Rattle.answers.specs.Events.{arrivalEvent, turnEvent};
+ghost use Rattle.answers.specs.Events.{sets, sentBits, arrivalEvent, turnEvent};
 use bus::weigh;
 use receive::Ending;
 use registers::BABL;
@@ -192,36 +192,35 @@ pub fn turn_number(sound: bool, size: usize, out: usize, report: u32) -> u8
     0
 }
 
+// An event: bits of CSR0 to set and to clear, a rise of CSR112, and the answer.
+fn sets(on: u16, off: u16, missed: u16, answer: Answer) -> Event
+    ensures { λ r. ⌜ r ≡ sets on off missed answer ⌝ }
+{
+    Event {
+        on,
+        off,
+        missed,
+        answer,
+    }
+}
+
 // The event of an arrival.
 pub fn arrival_event(ending: Ending) -> Event
     ensures { λ r. ⌜ r ≡ arrivalEvent ending ⌝ }
 {
     match ending {
-        Ending::Memory => Event {
-            on: MERR,
-            off: RXON + TXON,
-            missed: 0,
-            answer: plain(MEMORY),
-        },
-        Ending::Missed => Event {
-            on: MISS,
-            off: 0,
-            missed: 1,
-            answer: plain(MISSED),
-        },
-        Ending::Received => Event {
-            on: RINT,
-            off: 0,
-            missed: 0,
-            answer: plain(RECEIVED),
-        },
-        Ending::Cut => Event {
-            on: RINT,
-            off: 0,
-            missed: 0,
-            answer: plain(CUT),
-        },
+        Ending::Memory => sets(MERR, RXON + TXON, 0, plain(MEMORY)),
+        Ending::Missed => sets(MISS, 0, 1, plain(MISSED)),
+        Ending::Received => sets(RINT, 0, 0, plain(RECEIVED)),
+        Ending::Cut => sets(RINT, 0, 0, plain(CUT)),
     }
+}
+
+// What a frame handed out sets in CSR0.
+fn sent_bits(noheartbeat: bool, n: u16) -> u16
+    ensures { λ r. ⌜ r ≡ sentBits noheartbeat n ⌝ }
+{
+    TINT + weigh(noheartbeat, CERR) + weigh(1519 <= n, BABL)
 }
 
 // The event of a turn.
@@ -229,35 +228,10 @@ pub fn turn_event(noheartbeat: bool, outcome: Outcome) -> Event
     ensures { λ r. ⌜ r ≡ turnEvent noheartbeat outcome ⌝ }
 {
     match outcome {
-        Outcome::Idle => Event {
-            on: 0,
-            off: TDMD,
-            missed: 0,
-            answer: plain(IDLE),
-        },
-        Outcome::OutOfMemory => Event {
-            on: MERR,
-            off: TDMD + RXON + TXON,
-            missed: 0,
-            answer: plain(MEMORY),
-        },
-        Outcome::Underflow => Event {
-            on: TINT,
-            off: TDMD + TXON,
-            missed: 0,
-            answer: plain(UNDERFLOW),
-        },
-        Outcome::Failed => Event {
-            on: TINT,
-            off: TDMD,
-            missed: 0,
-            answer: plain(FAILED),
-        },
-        Outcome::Sent(n) => Event {
-            on: TINT + weigh(noheartbeat, CERR) + weigh(1519 <= n, BABL),
-            off: TDMD,
-            missed: 0,
-            answer: sent(n),
-        },
+        Outcome::Idle => sets(0, TDMD, 0, plain(IDLE)),
+        Outcome::OutOfMemory => sets(MERR, TDMD + RXON + TXON, 0, plain(MEMORY)),
+        Outcome::Underflow => sets(TINT, TDMD + TXON, 0, plain(UNDERFLOW)),
+        Outcome::Failed => sets(TINT, TDMD, 0, plain(FAILED)),
+        Outcome::Sent(n) => sets(sent_bits(noheartbeat, n), TDMD, 0, sent(n)),
     }
 }

@@ -5,3 +5,4 @@ pub mod Words
 pub mod Bus
 pub mod Within
 pub mod Secrecy
+pub mod Computed

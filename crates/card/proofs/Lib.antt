@@ -6,3 +6,4 @@ pub mod Initializing
 pub mod Taking
 pub mod Refusing
 pub mod Words
+pub mod One

@@ -7,3 +7,4 @@ pub mod Initialization
 pub mod Acts
 pub mod Arrival
 pub mod Turning
+pub mod Computed

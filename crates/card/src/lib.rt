@@ -36,7 +36,7 @@ pub struct Reply {
 }
 
 // A card after an initialization was tried, and whether it may start.
-struct Tried {
-    card: Card,
-    ready: bool,
+pub struct Tried {
+    pub card: Card,
+    pub ready: bool,
 }

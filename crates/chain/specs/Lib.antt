@@ -4,3 +4,4 @@ pub mod Status
 pub mod Start
 pub mod Chain
 pub mod Inner
+pub mod Computed

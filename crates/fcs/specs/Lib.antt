@@ -2,3 +2,4 @@
 pub mod Fcs
 pub mod Steps
 pub mod Waiting
+pub mod Computed

@@ -2,3 +2,4 @@
 pub mod Status
 pub mod Walk
 pub mod Inner
+pub mod Computed

@@ -3,3 +3,4 @@ pub mod Bits
 pub mod Csr0
 pub mod Writing
 pub mod Table
+pub mod Computed

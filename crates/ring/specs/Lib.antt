@@ -4,3 +4,4 @@ pub mod Loading
 pub mod Status
 pub mod Descriptor
 pub mod Places
+pub mod Computed

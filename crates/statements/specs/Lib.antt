@@ -1,5 +1,4 @@
 -- What the statements over all say.
-pub mod Computed
 pub mod Cases
 pub mod Soundly
 pub mod Runs

@@ -6,7 +6,7 @@ use mathlib.Core.List.{List}
 use lib.ListN.{getD}
 use Rattle.card.specs.State.{line}
 use Rattle.card.specs.Sound.{sound}
-use Rattle.card.specs.Answers.{Reply}
+use Rattle.card.specs.declared.Reply.{Reply}
 
 -- memory holds bytes
 abbrev pub Bytes : List ℕ → Type 0
@@ -16,4 +16,4 @@ Bytes m = (a : ℕ) → getD m a 0 < 256
 pub record Soundly (r : Reply) : Type 0 where
   pub state : sound (r .card) ≡ true
   pub level : r .line ≡ line (r .card)
-  pub number : r .number ≡ 9 → ⊥
+  pub number : r .answer .number ≡ 9 → ⊥
