@@ -1,1 +1,5 @@
--- The laws that the proofs of this crate cite.
+-- The laws that the proofs of this crate cite, and its theorems.
+pub mod Places
+pub mod Opens
+pub mod Back
+pub mod One

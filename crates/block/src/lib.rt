@@ -29,13 +29,13 @@ pub fn state_in(block: &[u8]) -> Card
 }
 
 // Whether a block starts with these words.
-fn is_head(block: &[u8], words: &[u16; WORDS]) -> bool
-    requires { ⌜ 2 * WORDS ≤ length (now block) ⌝ }
+fn is_head(block: &[u8], words: &[u16]) -> bool
+    requires { ⌜ 2 * length (now words) ≤ length (now block) ⌝ }
     ensures { λ r. ⌜ r ≡ holds (now (block .entry)) 0 (wordBytes (now (words .entry))) ⌝ }
 {
     let mut same = true;
     let mut i = 0;
-    while i < WORDS {
+    while i < words.len() {
         same = same & (joined(block[2 * i], block[2 * i + 1]) == words[i]);
         i += 1;
     }
@@ -69,12 +69,12 @@ pub fn is_open(block: &[u8]) -> bool
 }
 
 // The state's words go to the block's start.
-fn put_words(block: &mut [u8], words: &[u16; WORDS])
-    requires { ⌜ 2 * WORDS ≤ length (now block) ⌝ }
+fn put_words(block: &mut [u8], words: &[u16])
+    requires { ⌜ 2 * length (now words) ≤ length (now block) ⌝ }
     ensures { λ _. ⌜ now (block .exit) ≡ overwritten (now (block .entry)) 0 (wordBytes (now (words .entry))) ⌝ }
 {
     let mut i = 0;
-    while i < WORDS {
+    while i < words.len() {
         put_word(block, 2 * i, words[i]);
         i += 1;
     }

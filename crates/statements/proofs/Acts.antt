@@ -76,14 +76,17 @@ reading-sound c offset e =
     (λ z. so-if Soundly _ _ _ (replied-soundly fresh _ refl fresh-sound) (so-if Soundly _ _ _ (replied-soundly c _ refl e) (replied-soundly c _ refl e)))
 
 -- a write
+abbrev Wrote : Card → List ℕ → List ℕ → Reply → Type 0
+Wrote c m m′ r = Bytes m → sound c ≡ true → Soundly r
+
 pub writing-within : (c : Card) (n offset v : ℕ) (m : List ℕ)
-    → Within (InBlock c) Nothing (λ m′ r. Bytes m → sound c ≡ true → Soundly r) (writing c n offset v) m
+    → Within (InBlock c) Nothing (Wrote c m) (writing c n offset v) m
 unfolding writing
 writing-within c n offset v m =
-    so-unless (λ (p : Bus Reply). Within (InBlock c) Nothing _ p m) (writeRefusal c n offset) _ _
-    (within-done _ _ _ _ m (λ b e. refused-soundly c _ (subst (λ (s : Bool). writeNumber s n (noRegister (c .written .rap) offset) (locked (c .csr0 .stop) (c .written .rap) offset) (onlyReads (c .written .rap) offset) ≡ 9 → ⊥) (sym e) (write-never-9 n _ _ _)) e))
-    (λ z. within-then _ _ (λ m′ d. Bytes m → Parts c → Parts d) _ _ _ m (write-within c n v m offset)
-    (λ d m′ r p. within-done _ _ _ _ m′ (λ b e. replied-soundly d _ refl (together d (p b (apart c e))))))
+    so-unless (λ (p : Bus Reply). Within (InBlock c) Nothing (Wrote c m) p m) (writeRefusal c n offset) _ _
+    (within-done (InBlock c) Nothing (Wrote c m) _ m (λ b e. refused-soundly c _ (subst (λ (s : Bool). writeNumber s n (noRegister (c .written .rap) offset) (locked (c .csr0 .stop) (c .written .rap) offset) (onlyReads (c .written .rap) offset) ≡ 9 → ⊥) (sym e) (write-never-9 n _ _ _)) e))
+    (λ z. within-then (InBlock c) Nothing (λ m′ d. Bytes m → Parts c → Parts d) (Wrote c m) _ _ m (write-within c n v m offset)
+    (λ d m′ r p. within-done _ _ (Wrote c m) _ m′ (λ b e. replied-soundly d _ refl (together d (p b (apart c e))))))
 
 -- a card that has started
 module _ (c : Card) (e : sound c ≡ true) (on : (c .csr0 .rxon || c .csr0 .txon) ≡ true) where
