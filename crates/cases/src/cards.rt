@@ -1,29 +1,29 @@
 // Cards brought to a state by acts, and what is looked at afterwards.
 use crate::bytes::Bytes;
 use crate::bytes::put_word;
-use card::Answer;
+use answers::Answer;
+use answers::SENT;
 use card::Card;
-use card::Refusal;
-use card::Told;
-use ring::Ring;
+use card::Reply;
 use ring::Slot;
+use transmit::Report;
 
 // All of the memory.
 pub const WHOLE: usize = 8192;
 
 // The card after reset.
 pub fn fresh() -> Card {
-    let told = Card::new().reset();
-    told.card
+    let reply = Card::fresh().reset();
+    reply.card
 }
 
 // The act "register write", with the first `size` bytes lent.
-pub fn write(c: Card, m: &Bytes, size: usize, offset: u32, v: u16) -> Told {
+pub fn write(c: Card, m: &Bytes, size: usize, offset: u32, v: u16) -> Reply {
     write_in(c, m, size, offset, v)
 }
 
 // The same on a slice; a `size` that is too large lends it whole.
-fn write_in(c: Card, m: &[u8], size: usize, offset: u32, v: u16) -> Told {
+fn write_in(c: Card, m: &[u8], size: usize, offset: u32, v: u16) -> Reply {
     if size < m.len() {
         return c.write(&m[0..size], offset, v);
     }
@@ -31,12 +31,12 @@ fn write_in(c: Card, m: &[u8], size: usize, offset: u32, v: u16) -> Told {
 }
 
 // The act "frame arrival", with the first `size` bytes lent and a frame of `n` bytes.
-pub fn arrive(c: Card, m: &mut Bytes, size: usize, f: &Bytes, n: usize, extra: u32) -> Told {
+pub fn arrive(c: Card, m: &mut Bytes, size: usize, f: &Bytes, n: usize, extra: u32) -> Reply {
     arrive_in(c, m, size, f, n, extra)
 }
 
 // The same on slices; a `size` that is too large lends the memory whole.
-fn arrive_in(c: Card, m: &mut [u8], size: usize, f: &[u8], n: usize, extra: u32) -> Told {
+fn arrive_in(c: Card, m: &mut [u8], size: usize, f: &[u8], n: usize, extra: u32) -> Reply {
     if n <= f.len() {
         if size < m.len() {
             return c.arrive(&mut m[0..size], &f[0..n], extra);
@@ -53,11 +53,16 @@ pub fn turn(
     size: usize,
     out: &mut Bytes,
     room: usize,
-    report: u32,
+    result: u32,
     deferred: bool,
-    quiet: bool,
-) -> Told {
-    turn_in(c, m, size, out, room, report, deferred, quiet)
+    noheartbeat: bool,
+) -> Reply {
+    let report = Report {
+        result,
+        deferred,
+        noheartbeat,
+    };
+    turn_in(c, m, size, out, room, report)
 }
 
 // The same on slices; a `size` that is too large lends the memory whole.
@@ -67,28 +72,26 @@ fn turn_in(
     size: usize,
     out: &mut [u8],
     room: usize,
-    report: u32,
-    deferred: bool,
-    quiet: bool,
-) -> Told {
+    report: Report,
+) -> Reply {
     if room <= out.len() {
         if size < m.len() {
-            return c.turn(&mut m[0..size], &mut out[0..room], report, deferred, quiet);
+            return c.turn(&mut m[0..size], &mut out[0..room], report);
         }
-        return c.turn(m, &mut out[0..room], report, deferred, quiet);
+        return c.turn(m, &mut out[0..room], report);
     }
     c.reset()
 }
 
 // A write to a CSR, through RAP.
-pub fn written(c: Card, m: &Bytes, size: usize, r: u16, v: u16) -> Told {
+pub fn written(c: Card, m: &Bytes, size: usize, r: u16, v: u16) -> Reply {
     let selected = write(c, m, size, 0x12, r);
     let c = selected.card;
     write(c, m, size, 0x10, v)
 }
 
 // A read of a CSR, through RAP.
-pub fn seen(c: Card, r: u16) -> Told {
+pub fn seen(c: Card, r: u16) -> Reply {
     let c = selected(c, r);
     c.read(0x10)
 }
@@ -96,8 +99,8 @@ pub fn seen(c: Card, r: u16) -> Told {
 // A card with another CSR behind RDP.
 pub fn selected(c: Card, r: u16) -> Card {
     let none = [0u8; 1];
-    let told = c.write(&none, 0x12, r);
-    told.card
+    let reply = c.write(&none, 0x12, r);
+    reply.card
 }
 
 // The initialization block at 10h: station address 02-60-8C-01-02-03, no filter, and the words of the two rings.
@@ -133,18 +136,18 @@ fn unfiltered(m: &mut Bytes) {
     put_word(m, 0x1E, 0);
 }
 
-// A reset card that is told where the block stands (an odd address, of which bit 0 counts as 0), then a write to CSR0.
-pub fn begin(m: &Bytes, size: usize, v: u16) -> Told {
-    let told = written(fresh(), m, size, 1, 0x11);
-    let told = written(told.card, m, size, 2, 0);
-    written(told.card, m, size, 0, v)
+// A reset card that is reply where the block stands (an odd address, of which bit 0 counts as 0), then a write to CSR0.
+pub fn begin(m: &Bytes, size: usize, v: u16) -> Reply {
+    let reply = written(fresh(), m, size, 1, 0x11);
+    let reply = written(reply.card, m, size, 2, 0);
+    written(reply.card, m, size, 0, v)
 }
 
 // A running card, CSR0 0073h: INIT, STRT and IENA, then IDON is cleared.
 pub fn running(m: &Bytes) -> Card {
-    let told = begin(m, WHOLE, 0x0043);
-    let told = written(told.card, m, WHOLE, 0, 0x0140);
-    told.card
+    let reply = begin(m, WHOLE, 0x0043);
+    let reply = written(reply.card, m, WHOLE, 0, 0x0140);
+    reply.card
 }
 
 // A running card over the given block, with the receive ring at 40h and the transmit ring at 80h, of 1 (0) to 8 (6000h) slots.
@@ -153,50 +156,39 @@ pub fn started(m: &mut Bytes, mode: u16, receive_high: u16, transmit_high: u16) 
     running(m)
 }
 
-// A number of its own for each answer and its value.
-fn code(answer: Answer) -> u32 {
-    match answer {
-        Answer::Refused(why) => number(why),
-        Answer::Done(v) => 0x10000 + v as u32,
-        Answer::Sent(n) => 0x20000 + n as u32,
-        Answer::Off => 0x30001,
-        Answer::Runt => 0x30002,
-        Answer::NotOurs => 0x30003,
-        Answer::Missed => 0x30004,
-        Answer::Received => 0x30005,
-        Answer::Cut => 0x30006,
-        Answer::Memory => 0x30007,
-        Answer::Idle => 0x30008,
-        Answer::Underflow => 0x30009,
-        Answer::Failed => 0x3000A,
+// The answer of a turn that handed a frame of `length` bytes out.
+pub fn sent(length: u16) -> Answer {
+    Answer {
+        number: 0,
+        word: SENT,
+        value: 0,
+        length,
     }
 }
 
-// The number of a refusal.
-fn number(why: Refusal) -> u32 {
-    card::number(why) as u32
-}
-
 // Whether the answer is the expected one.
-pub fn is(told: Told, answer: Answer) -> bool {
-    let got = told.answer;
-    code(got) == code(answer)
+pub fn is(reply: Reply, answer: Answer) -> bool {
+    let got = reply.answer;
+    (got.number == answer.number)
+        & (got.word == answer.word)
+        & (got.value == answer.value)
+        & (got.length == answer.length)
 }
 
 // Whether a CSR reads as expected.
 pub fn reads(c: Card, r: u16, v: u16) -> bool {
-    is(seen(c, r), Answer::Done(v))
+    is(seen(c, r), answers::done(v))
 }
 
 // Whether answer, CSR0 and line are the expected ones.
-pub fn shows(told: Told, answer: Answer, csr0: u16, line: bool) -> bool {
-    let c = told.card;
-    is(told, answer) & reads(c, 0, csr0) & (told.line == line)
+pub fn shows(reply: Reply, answer: Answer, csr0: u16, line: bool) -> bool {
+    let c = reply.card;
+    is(reply, answer) & reads(c, 0, csr0) & (reply.line == line)
 }
 
 // Whether these slots are current.
-pub fn slots(told: Told, receive: u16, transmit: u16) -> bool {
-    let c = told.card;
+pub fn slots(reply: Reply, receive: u16, transmit: u16) -> bool {
+    let c = reply.card;
     (c.receive.slot.0 == receive) & (c.transmit.slot.0 == transmit)
 }
 
@@ -210,21 +202,15 @@ pub fn same_card(a: Card, b: Card) -> bool {
 }
 
 // Whether a call was refused with a number, the card being kept and the line as expected.
-pub fn refused(told: Told, why: Refusal, kept: Card, line: bool) -> bool {
-    let c = told.card;
-    is(told, Answer::Refused(why)) & same_card(c, kept) & (told.line == line)
+pub fn refused(reply: Reply, number: u8, kept: Card, line: bool) -> bool {
+    let c = reply.card;
+    is(reply, answers::refusal(number)) & same_card(c, kept) & (reply.line == line)
 }
 
 // The same card at another receive slot, which may make its state unsound.
 pub fn moved(mut c: Card, slot: u16) -> Card {
-    let base = c.receive.base;
-    let length = c.receive.length;
-    let ring = Ring {
-        base,
-        length,
-        slot: Slot(slot),
-    };
-    c.receive = ring;
+    let ring = c.receive;
+    c.receive = ring.moved(Slot(slot));
     c
 }
 

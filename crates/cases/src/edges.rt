@@ -13,11 +13,17 @@ use crate::cards::WHOLE;
 use crate::cards::arrive;
 use crate::cards::begin;
 use crate::cards::same_card;
+use crate::cards::sent;
 use crate::cards::shows;
 use crate::cards::slots;
 use crate::cards::started;
 use crate::cards::turn;
-use card::Answer;
+use answers::CUT;
+use answers::MEMORY;
+use answers::RECEIVED;
+use answers::RUNT;
+use answers::done;
+use answers::plain;
 use tally::Tally;
 use tally::with;
 
@@ -30,8 +36,8 @@ pub fn run(t: Tally) -> Tally {
     let t = with(t, one_slot());
     let t = with(t, no_memory());
     let t = with(t, receive_end() & transmit_end());
-    let t = with(t, sent(1514, 1518, 0x02F3));
-    with(t, sent(1515, 1519, 0xC2F3))
+    let t = with(t, goes_out(1514, 1518, 0x02F3));
+    with(t, goes_out(1515, 1519, 0xC2F3))
 }
 
 // 22: "under 64 bytes, "runt"". "None of these changes anything."
@@ -41,9 +47,9 @@ fn bytes_63() -> bool {
     descriptor(&mut m, 0x40, 0x100, 0x80, minus(200));
     let kept = m;
     let f = frame(63, 20);
-    let told = arrive(c, &mut m, WHOLE, &f, 63, 0);
-    let after = told.card;
-    shows(told, Answer::Runt, 0x0073, false) & same_card(after, c) & same(&m, &kept)
+    let reply = arrive(c, &mut m, WHOLE, &f, 63, 0);
+    let after = reply.card;
+    shows(reply, plain(RUNT), 0x0073, false) & same_card(after, c) & same(&m, &kept)
 }
 
 // 23: 64 bytes are no runt, and "FF-FF-FF-FF-FF-FF passes if bit 14 (DRCVBC) is clear". The frame is spelled out with its FCS, which zlib gives too.
@@ -57,8 +63,8 @@ fn bytes_64() -> bool {
     let mut wanted = m;
     ended(&mut wanted, 0x40, 0x03, 64);
     copy(&mut wanted, 0x100, &f, 0, 64);
-    let told = arrive(c, &mut m, WHOLE, &f, 64, 0);
-    shows(told, Answer::Received, 0x04F3, true) & slots(told, 1, 0) & same(&m, &wanted)
+    let reply = arrive(c, &mut m, WHOLE, &f, 64, 0);
+    shows(reply, plain(RECEIVED), 0x04F3, true) & slots(reply, 1, 0) & same(&m, &wanted)
 }
 
 // 24: a frame as long as its buffer: "If the frame ends, status is ENP and MCNT the whole length". The next slot, not owned, plays no part.
@@ -70,8 +76,8 @@ fn as_long() -> bool {
     let mut wanted = m;
     ended(&mut wanted, 0x40, 0x03, 200);
     copy(&mut wanted, 0x100, &f, 0, 200);
-    let told = arrive(c, &mut m, WHOLE, &f, 200, 0);
-    shows(told, Answer::Received, 0x04F3, true) & slots(told, 1, 0) & same(&m, &wanted)
+    let reply = arrive(c, &mut m, WHOLE, &f, 200, 0);
+    shows(reply, plain(RECEIVED), 0x04F3, true) & slots(reply, 1, 0) & same(&m, &wanted)
 }
 
 // 25: a frame one longer: "Owned: the current one is released without ERR or ENP, and the walk goes on."
@@ -86,8 +92,8 @@ fn one_longer() -> bool {
     ended(&mut wanted, 0x48, 0x01, 201);
     copy(&mut wanted, 0x100, &f, 0, 200);
     copy(&mut wanted, 0x200, &f, 200, 1);
-    let told = arrive(c, &mut m, WHOLE, &f, 201, 0);
-    shows(told, Answer::Received, 0x04F3, true) & slots(told, 0, 0) & same(&m, &wanted)
+    let reply = arrive(c, &mut m, WHOLE, &f, 201, 0);
+    shows(reply, plain(RECEIVED), 0x04F3, true) & slots(reply, 0, 0) & same(&m, &wanted)
 }
 
 // 26: one-slot ring: "The next slot counts as not owned when the frame has used as many slots as the ring has."
@@ -99,8 +105,8 @@ fn one_slot() -> bool {
     let mut wanted = m;
     put(&mut wanted, 0x43, 0x46);
     copy(&mut wanted, 0x100, &f, 0, 200);
-    let told = arrive(c, &mut m, WHOLE, &f, 201, 0);
-    shows(told, Answer::Cut, 0x04F3, true) & slots(told, 0, 0) & same(&m, &wanted)
+    let reply = arrive(c, &mut m, WHOLE, &f, 201, 0);
+    shows(reply, plain(CUT), 0x04F3, true) & slots(reply, 0, 0) & same(&m, &wanted)
 }
 
 // 27: memory of 0 bytes: "an address outside the lent memory stands for the missing DMA acknowledge"; MERR "always clears RXON and TXON".
@@ -113,12 +119,12 @@ fn no_memory() -> bool {
     let f = frame(64, 24);
     let mut out = [0xEEu8; 8192];
     let same_out = out;
-    let told = begin(&m, 0, 0x0041);
-    let initialized = shows(told, Answer::Done(0), 0x88C1, true);
-    let told = arrive(c, &mut m, 0, &f, 64, 0);
-    let arrived = shows(told, Answer::Memory, 0x88C3, true) & slots(told, 0, 0);
-    let told = turn(c, &mut m, 0, &mut out, 4100, 0, false, false);
-    let turned = shows(told, Answer::Memory, 0x88C3, true) & slots(told, 0, 0);
+    let reply = begin(&m, 0, 0x0041);
+    let initialized = shows(reply, done(0), 0x88C1, true);
+    let reply = arrive(c, &mut m, 0, &f, 64, 0);
+    let arrived = shows(reply, plain(MEMORY), 0x88C3, true) & slots(reply, 0, 0);
+    let reply = turn(c, &mut m, 0, &mut out, 4100, 0, false, false);
+    let turned = shows(reply, plain(MEMORY), 0x88C3, true) & slots(reply, 0, 0);
     initialized & arrived & turned & same(&m, &kept) & same(&out, &same_out)
 }
 
@@ -132,13 +138,13 @@ fn receive_end() -> bool {
     let mut wanted = m;
     ended(&mut wanted, 0x40, 0x03, 64);
     copy(&mut wanted, 824, &f, 0, 64);
-    let told = arrive(c, &mut m, 1024, &f, 64, 0);
-    let inside = shows(told, Answer::Received, 0x04F3, true)
-        & slots(told, 1, 0)
+    let reply = arrive(c, &mut m, 1024, &f, 64, 0);
+    let inside = shows(reply, plain(RECEIVED), 0x04F3, true)
+        & slots(reply, 1, 0)
         & same(&m, &wanted);
-    let c = told.card;
-    let told = arrive(c, &mut m, 1024, &f, 64, 0);
-    inside & shows(told, Answer::Memory, 0x8CC3, true) & slots(told, 1, 0) & same(&m, &wanted)
+    let c = reply.card;
+    let reply = arrive(c, &mut m, 1024, &f, 64, 0);
+    inside & shows(reply, plain(MEMORY), 0x8CC3, true) & slots(reply, 1, 0) & same(&m, &wanted)
 }
 
 // 28: "buffer outside, MERR"; "On MERR the frame's first slot stays current". The same for a frame that is sent.
@@ -154,21 +160,19 @@ fn transmit_end() -> bool {
     seal(&mut expected, 204);
     let mut wanted = m;
     ended(&mut wanted, 0x80, 0x03, 0);
-    let told = turn(c, &mut m, 1024, &mut out, 4100, 0, false, false);
-    let inside = shows(told, Answer::Sent(204), 0x02F3, true)
-        & slots(told, 0, 1)
-        & same(&m, &wanted);
-    let c = told.card;
-    let told = turn(c, &mut m, 1024, &mut out, 4100, 0, false, false);
+    let reply = turn(c, &mut m, 1024, &mut out, 4100, 0, false, false);
+    let inside = shows(reply, sent(204), 0x02F3, true) & slots(reply, 0, 1) & same(&m, &wanted);
+    let c = reply.card;
+    let reply = turn(c, &mut m, 1024, &mut out, 4100, 0, false, false);
     inside
-        & shows(told, Answer::Memory, 0x8AC3, true)
-        & slots(told, 0, 1)
+        & shows(reply, plain(MEMORY), 0x8AC3, true)
+        & slots(reply, 0, 1)
         & same(&m, &wanted)
         & same(&out, &expected)
 }
 
 // 29 and 30: "1,519 bytes or more handed out, FCS counted, set BABL". `data` bytes of memory go out as `length` bytes.
-fn sent(data: u16, length: u16, csr0: u16) -> bool {
+fn goes_out(data: u16, length: u16, csr0: u16) -> bool {
     let mut m = [0u8; 8192];
     fill(&mut m, 27);
     let c = started(&mut m, 0, 0, 0x2000);
@@ -180,9 +184,9 @@ fn sent(data: u16, length: u16, csr0: u16) -> bool {
     seal(&mut expected, n);
     let mut wanted = m;
     ended(&mut wanted, 0x80, 0x03, 0);
-    let told = turn(c, &mut m, WHOLE, &mut out, 4200, 0, false, false);
-    shows(told, Answer::Sent(length), csr0, true)
-        & slots(told, 0, 1)
+    let reply = turn(c, &mut m, WHOLE, &mut out, 4200, 0, false, false);
+    shows(reply, sent(length), csr0, true)
+        & slots(reply, 0, 1)
         & same(&m, &wanted)
         & same(&out, &expected)
 }

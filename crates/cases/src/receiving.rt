@@ -17,11 +17,15 @@ use crate::cards::block;
 use crate::cards::counted;
 use crate::cards::reads;
 use crate::cards::running;
+use crate::cards::sent;
 use crate::cards::shows;
 use crate::cards::slots;
 use crate::cards::started;
 use crate::cards::turn;
-use card::Answer;
+use answers::CUT;
+use answers::MISSED;
+use answers::RECEIVED;
+use answers::plain;
 use tally::Tally;
 use tally::with;
 
@@ -45,8 +49,8 @@ fn over_itself() -> bool {
     put(&mut wanted, 0x43, 0x02);
     copy(&mut wanted, 0x100, &f, 14, 86);
     ended(&mut wanted, 0x48, 0x01, 100);
-    let told = arrive(c, &mut m, WHOLE, &f, 100, 0);
-    shows(told, Answer::Received, 0x04F3, true) & slots(told, 0, 0) & same(&m, &wanted)
+    let reply = arrive(c, &mut m, WHOLE, &f, 100, 0);
+    shows(reply, plain(RECEIVED), 0x04F3, true) & slots(reply, 0, 0) & same(&m, &wanted)
 }
 
 // 31: "nothing being written till it is read": a buffer over its own descriptor is handed out with OWN as it was.
@@ -61,9 +65,9 @@ fn sent_over_itself() -> bool {
     seal(&mut expected, 64);
     let mut wanted = m;
     ended(&mut wanted, 0x80, 0x03, 0);
-    let told = turn(c, &mut m, WHOLE, &mut out, 4100, 0, false, false);
-    shows(told, Answer::Sent(64), 0x02F3, true)
-        & slots(told, 0, 1)
+    let reply = turn(c, &mut m, WHOLE, &mut out, 4100, 0, false, false);
+    shows(reply, sent(64), 0x02F3, true)
+        & slots(reply, 0, 1)
         & same(&m, &wanted)
         & same(&out, &expected)
 }
@@ -80,8 +84,8 @@ fn next_given() -> bool {
     put(&mut wanted, 0x43, 0x02);
     copy(&mut wanted, 0x100, &f, 8, 92);
     ended(&mut wanted, 0x48, 0x01, 100);
-    let told = arrive(c, &mut m, WHOLE, &f, 100, 0);
-    shows(told, Answer::Received, 0x04F3, true) & slots(told, 0, 0) & same(&m, &wanted)
+    let reply = arrive(c, &mut m, WHOLE, &f, 100, 0);
+    shows(reply, plain(RECEIVED), 0x04F3, true) & slots(reply, 0, 0) & same(&m, &wanted)
 }
 
 // 32: the same the other way: the frame's fourth byte, 01h, takes OWN from the next slot, and the frame is cut.
@@ -94,8 +98,8 @@ fn next_taken() -> bool {
     let mut wanted = m;
     copy(&mut wanted, 0x48, &f, 0, 8);
     put(&mut wanted, 0x43, 0x46);
-    let told = arrive(c, &mut m, WHOLE, &f, 100, 0);
-    shows(told, Answer::Cut, 0x04F3, true) & slots(told, 1, 0) & same(&m, &wanted)
+    let reply = arrive(c, &mut m, WHOLE, &f, 100, 0);
+    shows(reply, plain(CUT), 0x04F3, true) & slots(reply, 1, 0) & same(&m, &wanted)
 }
 
 // 33: "OWN clear, MISS is set, CSR112 rises by one and the answer is "missed""; "16 bits, 65,535 goes to 0".
@@ -106,16 +110,16 @@ fn missed() -> bool {
     let kept = m;
     let f = frame(64, 34);
     let before = reads(c, 112, 65535);
-    let told = arrive(c, &mut m, WHOLE, &f, 64, 0);
-    let zero = shows(told, Answer::Missed, 0x90F3, true)
-        & slots(told, 0, 0)
-        & reads(told.card, 112, 0);
-    let c = told.card;
-    let told = arrive(c, &mut m, WHOLE, &f, 64, 0);
+    let reply = arrive(c, &mut m, WHOLE, &f, 64, 0);
+    let zero = shows(reply, plain(MISSED), 0x90F3, true)
+        & slots(reply, 0, 0)
+        & reads(reply.card, 112, 0);
+    let c = reply.card;
+    let reply = arrive(c, &mut m, WHOLE, &f, 64, 0);
     before
         & zero
-        & shows(told, Answer::Missed, 0x90F3, true)
-        & reads(told.card, 112, 1)
+        & shows(reply, plain(MISSED), 0x90F3, true)
+        & reads(reply.card, 112, 1)
         & same(&m, &kept)
 }
 
@@ -133,9 +137,9 @@ fn all_slots(length: usize, last: u8) -> bool {
     put(&mut wanted, 0x7FB, last);
     if last == 0x01 {
         ended(&mut wanted, 0x7F8, 0x01, 3968);
-        let told = arrive(c, &mut m, WHOLE, &f, length, 0);
-        return shows(told, Answer::Received, 0x04F3, true) & slots(told, 0, 0) & same(&m, &wanted);
+        let reply = arrive(c, &mut m, WHOLE, &f, length, 0);
+        return shows(reply, plain(RECEIVED), 0x04F3, true) & slots(reply, 0, 0) & same(&m, &wanted);
     }
-    let told = arrive(c, &mut m, WHOLE, &f, length, 0);
-    shows(told, Answer::Cut, 0x04F3, true) & slots(told, 0, 0) & same(&m, &wanted)
+    let reply = arrive(c, &mut m, WHOLE, &f, length, 0);
+    shows(reply, plain(CUT), 0x04F3, true) & slots(reply, 0, 0) & same(&m, &wanted)
 }

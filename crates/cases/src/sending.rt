@@ -9,12 +9,18 @@ use crate::bytes::same;
 use crate::bytes::seal;
 use crate::cards::WHOLE;
 use crate::cards::is;
+use crate::cards::sent;
 use crate::cards::shows;
 use crate::cards::slots;
 use crate::cards::started;
 use crate::cards::turn;
 use crate::cards::written;
-use card::Answer;
+use answers::FAILED;
+use answers::IDLE;
+use answers::OFF;
+use answers::UNDERFLOW;
+use answers::done;
+use answers::plain;
 use tally::Tally;
 use tally::with;
 
@@ -42,9 +48,9 @@ fn total_4096() -> bool {
     let mut wanted = m;
     put(&mut wanted, 0x83, 0x02);
     ended(&mut wanted, 0x88, 0x01, 0);
-    let told = turn(c, &mut m, WHOLE, &mut out, 4100, 0, false, false);
-    shows(told, Answer::Sent(4100), 0xC2F3, true)
-        & slots(told, 0, 0)
+    let reply = turn(c, &mut m, WHOLE, &mut out, 4100, 0, false, false);
+    shows(reply, sent(4100), 0xC2F3, true)
+        & slots(reply, 0, 0)
         & same(&m, &wanted)
         & same(&out, &expected)
 }
@@ -61,11 +67,11 @@ fn total_4097() -> bool {
     let mut wanted = m;
     put(&mut wanted, 0x83, 0x02);
     ended(&mut wanted, 0x88, 0x61, 0x4000);
-    let told = turn(c, &mut m, WHOLE, &mut out, 4100, 0, true, true);
-    let under = shows(told, Answer::Underflow, 0x02E3, true) & slots(told, 0, 2);
-    let c = told.card;
-    let told = turn(c, &mut m, WHOLE, &mut out, 4100, 0, false, false);
-    under & shows(told, Answer::Off, 0x02E3, true) & same(&m, &wanted) & same(&out, &expected)
+    let reply = turn(c, &mut m, WHOLE, &mut out, 4100, 0, true, true);
+    let under = shows(reply, plain(UNDERFLOW), 0x02E3, true) & slots(reply, 0, 2);
+    let c = reply.card;
+    let reply = turn(c, &mut m, WHOLE, &mut out, 4100, 0, false, false);
+    under & shows(reply, plain(OFF), 0x02E3, true) & same(&m, &wanted) & same(&out, &expected)
 }
 
 // 37: a chain over the whole ring that ends in ENP. "The FCS is appended if ADD_FCS is set in the first descriptor or DXMTFCS (MODE bit 3) is clear." "A later STP is ignored." "No heartbeat sets CERR".
@@ -89,9 +95,9 @@ fn whole_ring() -> bool {
     put(&mut wanted, 0x8B, 0x00);
     put(&mut wanted, 0x93, 0x52);
     ended(&mut wanted, 0x98, 0x11, 0);
-    let told = turn(c, &mut m, WHOLE, &mut out, 8192, 2, false, true);
-    shows(told, Answer::Sent(130), 0xA2F3, true)
-        & slots(told, 0, 0)
+    let reply = turn(c, &mut m, WHOLE, &mut out, 8192, 2, false, true);
+    shows(reply, sent(130), 0xA2F3, true)
+        & slots(reply, 0, 0)
         & same(&m, &wanted)
         & same(&out, &expected)
 }
@@ -111,11 +117,11 @@ fn endless() -> bool {
     put(&mut wanted, 0x8B, 0x00);
     put(&mut wanted, 0x93, 0x00);
     ended(&mut wanted, 0x98, 0x40, 0xC000);
-    let told = turn(c, &mut m, WHOLE, &mut out, 4100, 0, false, false);
-    let under = shows(told, Answer::Underflow, 0x02E3, true) & slots(told, 0, 0);
-    let c = told.card;
-    let told = turn(c, &mut m, WHOLE, &mut out, 4100, 0, false, false);
-    under & is(told, Answer::Off) & same(&m, &wanted) & same(&out, &expected)
+    let reply = turn(c, &mut m, WHOLE, &mut out, 4100, 0, false, false);
+    let under = shows(reply, plain(UNDERFLOW), 0x02E3, true) & slots(reply, 0, 0);
+    let c = reply.card;
+    let reply = turn(c, &mut m, WHOLE, &mut out, 4100, 0, false, false);
+    under & is(reply, plain(OFF)) & same(&m, &wanted) & same(&out, &expected)
 }
 
 // 38: "OWN clear .. underflow at the slot before"; "The slot after the chain, underflow included, is current"; "STRT after STOP alone goes on at the current slots".
@@ -127,16 +133,20 @@ fn not_owned() -> bool {
     let mut out = [0xEEu8; 8192];
     let mut wanted = m;
     ended(&mut wanted, 0x80, 0x62, 0xC000);
-    let told = turn(c, &mut m, WHOLE, &mut out, 4100, 0, false, false);
-    let under = shows(told, Answer::Underflow, 0x02E3, true)
-        & slots(told, 0, 1)
+    let reply = turn(c, &mut m, WHOLE, &mut out, 4100, 0, false, false);
+    let under = shows(reply, plain(UNDERFLOW), 0x02E3, true)
+        & slots(reply, 0, 1)
         & same(&m, &wanted);
-    let told = written(told.card, &m, WHOLE, 0, 0x0004);
-    let told = written(told.card, &m, WHOLE, 0, 0x0042);
-    let again = shows(told, Answer::Done(0), 0x0072, false) & slots(told, 0, 1);
-    let c = told.card;
-    let told = turn(c, &mut m, WHOLE, &mut out, 4100, 0, false, false);
-    under & again & shows(told, Answer::Idle, 0x0072, false) & slots(told, 0, 1) & same(&m, &wanted)
+    let reply = written(reply.card, &m, WHOLE, 0, 0x0004);
+    let reply = written(reply.card, &m, WHOLE, 0, 0x0042);
+    let again = shows(reply, done(0), 0x0072, false) & slots(reply, 0, 1);
+    let c = reply.card;
+    let reply = turn(c, &mut m, WHOLE, &mut out, 4100, 0, false, false);
+    under
+        & again
+        & shows(reply, plain(IDLE), 0x0072, false)
+        & slots(reply, 0, 1)
+        & same(&m, &wanted)
 }
 
 // 39: "An owned descriptor without STP where a frame should start has only OWN cleared and is passed." "Not owned: "idle"." "Otherwise TDMD is cleared."
@@ -154,13 +164,13 @@ fn no_start() -> bool {
     put(&mut wanted, 0x8B, 0x01);
     put(&mut wanted, 0x93, 0x7D);
     put(&mut wanted, 0x9B, 0x10);
-    let told = written(c, &m, WHOLE, 0, 0x0048);
-    let asked = shows(told, Answer::Done(0), 0x007B, false);
-    let c = told.card;
-    let told = turn(c, &mut m, WHOLE, &mut out, 4100, 0, false, false);
+    let reply = written(c, &m, WHOLE, 0, 0x0048);
+    let asked = shows(reply, done(0), 0x007B, false);
+    let c = reply.card;
+    let reply = turn(c, &mut m, WHOLE, &mut out, 4100, 0, false, false);
     asked
-        & shows(told, Answer::Idle, 0x0073, false)
-        & slots(told, 0, 0)
+        & shows(reply, plain(IDLE), 0x0073, false)
+        & slots(reply, 0, 0)
         & same(&m, &wanted)
         & same(&out, &expected)
 }
@@ -177,24 +187,24 @@ fn drty() -> bool {
     let mut expected = out;
     let mut wanted = m;
     ended(&mut wanted, 0x80, 0x43, 0x0400);
-    let told = turn(c, &mut m, WHOLE, &mut out, 4100, 1, true, true);
-    let one = shows(told, Answer::Failed, 0x02F3, true) & slots(told, 0, 1) & same(&m, &wanted);
+    let reply = turn(c, &mut m, WHOLE, &mut out, 4100, 1, true, true);
+    let one = shows(reply, plain(FAILED), 0x02F3, true) & slots(reply, 0, 1) & same(&m, &wanted);
     ended(&mut wanted, 0x88, 0x43, 0x0400);
-    let c = told.card;
-    let told = turn(c, &mut m, WHOLE, &mut out, 4100, 2, true, true);
-    let more = shows(told, Answer::Failed, 0x02F3, true)
-        & slots(told, 0, 2)
+    let c = reply.card;
+    let reply = turn(c, &mut m, WHOLE, &mut out, 4100, 2, true, true);
+    let more = shows(reply, plain(FAILED), 0x02F3, true)
+        & slots(reply, 0, 2)
         & same(&m, &wanted)
         & same(&out, &expected);
     ended(&mut wanted, 0x90, 0x07, 0);
     copy(&mut expected, 0, &m, 0x200, 60);
     seal(&mut expected, 64);
-    let c = told.card;
-    let told = turn(c, &mut m, WHOLE, &mut out, 4100, 0, true, false);
+    let c = reply.card;
+    let reply = turn(c, &mut m, WHOLE, &mut out, 4100, 0, true, false);
     one
         & more
-        & shows(told, Answer::Sent(64), 0x02F3, true)
-        & slots(told, 0, 3)
+        & shows(reply, sent(64), 0x02F3, true)
+        & slots(reply, 0, 3)
         & same(&m, &wanted)
         & same(&out, &expected)
 }

@@ -16,12 +16,18 @@ use crate::cards::block;
 use crate::cards::fresh;
 use crate::cards::reads;
 use crate::cards::running;
+use crate::cards::sent;
 use crate::cards::shows;
 use crate::cards::slots;
 use crate::cards::started;
 use crate::cards::turn;
 use crate::cards::written;
-use card::Answer;
+use answers::CUT;
+use answers::FAILED;
+use answers::MEMORY;
+use answers::RECEIVED;
+use answers::done;
+use answers::plain;
 use card::Card;
 use tally::Tally;
 use tally::with;
@@ -50,12 +56,12 @@ fn count_000() -> bool {
     descriptor(&mut m, 0x40, 0x100, 0x80, 0x0000);
     let f = frame(4095, 1);
     let mut wanted = m;
-    let told = arrive(c, &mut m, 4351, &f, 4095, 0);
-    let outside = shows(told, Answer::Memory, 0x88C3, true) & same(&m, &wanted);
+    let reply = arrive(c, &mut m, 4351, &f, 4095, 0);
+    let outside = shows(reply, plain(MEMORY), 0x88C3, true) & same(&m, &wanted);
     ended(&mut wanted, 0x40, 0x03, 4095);
     copy(&mut wanted, 0x100, &f, 0, 4095);
-    let told = arrive(c, &mut m, 4352, &f, 4095, 0);
-    outside & shows(told, Answer::Received, 0x04F3, true) & same(&m, &wanted)
+    let reply = arrive(c, &mut m, 4352, &f, 4095, 0);
+    outside & shows(reply, plain(RECEIVED), 0x04F3, true) & same(&m, &wanted)
 }
 
 // 2, B: "FFFh is 1". The first buffer takes one byte, the second the other 63.
@@ -70,8 +76,8 @@ fn count_fff() -> bool {
     ended(&mut wanted, 0x48, 0x01, 64);
     copy(&mut wanted, 0x100, &f, 0, 1);
     copy(&mut wanted, 0x200, &f, 1, 63);
-    let told = arrive(c, &mut m, WHOLE, &f, 64, 0);
-    shows(told, Answer::Received, 0x04F3, true) & slots(told, 0, 0) & same(&m, &wanted)
+    let reply = arrive(c, &mut m, WHOLE, &f, 64, 0);
+    shows(reply, plain(RECEIVED), 0x04F3, true) & slots(reply, 0, 0) & same(&m, &wanted)
 }
 
 // 3, C: "A12h is 1,518", and "bits 15-12 are ignored". 1,518 bytes fit in one buffer, 1,519 do not.
@@ -86,15 +92,15 @@ fn count_a12() -> bool {
     let mut wanted = m;
     ended(&mut wanted, 0x40, 0x03, 1518);
     copy(&mut wanted, 0x100, &f, 0, 1518);
-    let told = arrive(c, &mut m, WHOLE, &f, 1518, 0);
-    let fits = shows(told, Answer::Received, 0x04F3, true) & slots(told, 1, 0) & same(&m, &wanted);
+    let reply = arrive(c, &mut m, WHOLE, &f, 1518, 0);
+    let fits = shows(reply, plain(RECEIVED), 0x04F3, true) & slots(reply, 1, 0) & same(&m, &wanted);
     put(&mut wanted, 0x4B, 0x02);
     ended(&mut wanted, 0x50, 0x01, 1519);
     copy(&mut wanted, 0x700, &g, 0, 1518);
     copy(&mut wanted, 0xD00, &g, 1518, 1);
-    let c = told.card;
-    let told = arrive(c, &mut m, WHOLE, &g, 1519, 0);
-    fits & shows(told, Answer::Received, 0x04F3, true) & slots(told, 3, 0) & same(&m, &wanted)
+    let c = reply.card;
+    let reply = arrive(c, &mut m, WHOLE, &g, 1519, 0);
+    fits & shows(reply, plain(RECEIVED), 0x04F3, true) & slots(reply, 3, 0) & same(&m, &wanted)
 }
 
 // 4, D: "16 slots, slot 0, FFF0h; slot 15, FFFFh". A frame of 1,500 bytes takes 15 buffers of 100.
@@ -103,15 +109,15 @@ fn sixteen_slots() -> bool {
     block(&mut m, 0, 0x80, 0x8000, 0x40, 0);
     ring(&mut m, 0x80, 16, 0x100, 100, 100);
     let f = frame(1500, 5);
-    let told = begin(&m, WHOLE, 0x0001);
-    let told = written(told.card, &m, WHOLE, 0, 0x0004);
-    let first = counters(told.card, 0xFFF0, 0xFFF0, 0xFFFF, 0xFFFF);
-    let told = written(told.card, &m, WHOLE, 0, 0x0042);
-    let c = told.card;
-    let told = arrive(c, &mut m, WHOLE, &f, 1500, 0);
-    let taken = shows(told, Answer::Received, 0x04F2, true) & slots(told, 15, 0);
-    let told = written(told.card, &m, WHOLE, 0, 0x0004);
-    first & taken & counters(told.card, 0xFFFF, 0xFFF0, 0xFFFF, 0xFFFF)
+    let reply = begin(&m, WHOLE, 0x0001);
+    let reply = written(reply.card, &m, WHOLE, 0, 0x0004);
+    let first = counters(reply.card, 0xFFF0, 0xFFF0, 0xFFFF, 0xFFFF);
+    let reply = written(reply.card, &m, WHOLE, 0, 0x0042);
+    let c = reply.card;
+    let reply = arrive(c, &mut m, WHOLE, &f, 1500, 0);
+    let taken = shows(reply, plain(RECEIVED), 0x04F2, true) & slots(reply, 15, 0);
+    let reply = written(reply.card, &m, WHOLE, 0, 0x0004);
+    first & taken & counters(reply.card, 0xFFFF, 0xFFF0, 0xFFFF, 0xFFFF)
 }
 
 // Whether CSR72, 76, 74 and 78 read as expected.
@@ -133,18 +139,18 @@ fn one_slot() -> bool {
     let mut m = [0u8; 8192];
     block(&mut m, 0, 0x28, 0, 0x30, 0);
     let before = counters(fresh(), 0, 0, 0, 0);
-    let told = begin(&m, WHOLE, 0x0001);
-    let told = written(told.card, &m, WHOLE, 0, 0x0004);
-    before & counters(told.card, 0xFFFF, 0xFFFF, 0xFFFF, 0xFFFF)
+    let reply = begin(&m, WHOLE, 0x0001);
+    let reply = written(reply.card, &m, WHOLE, 0, 0x0004);
+    before & counters(reply.card, 0xFFFF, 0xFFFF, 0xFFFF, 0xFFFF)
 }
 
 // 6, F: "words 2345h, 4001h: base 012340h, 4 slots"; the transmit ring has words FFFFh, FFFFh: base FFFFF8h, 128 slots.
 fn ring_words() -> bool {
     let mut m = [0u8; 8192];
     block(&mut m, 0, 0x2345, 0x4001, 0xFFFF, 0xFFFF);
-    let told = begin(&m, WHOLE, 0x0001);
-    let told = written(told.card, &m, WHOLE, 0, 0x0004);
-    let c = told.card;
+    let reply = begin(&m, WHOLE, 0x0001);
+    let reply = written(reply.card, &m, WHOLE, 0, 0x0004);
+    let c = reply.card;
     reads(c, 24, 0x2340)
         & reads(c, 25, 0x0001)
         & reads(c, 30, 0xFFF8)
@@ -156,27 +162,27 @@ fn ring_words() -> bool {
 fn init() -> bool {
     let mut m = [0u8; 8192];
     block(&mut m, 0, 0x40, 0, 0x80, 0);
-    let told = begin(&m, 40, 0x0001);
-    shows(told, Answer::Done(0), 0x0181, false)
+    let reply = begin(&m, 40, 0x0001);
+    shows(reply, done(0), 0x0181, false)
 }
 
 // 8, H: "then 0142h: 0073h".
 fn start() -> bool {
     let mut m = [0u8; 8192];
     block(&mut m, 0, 0x40, 0, 0x80, 0);
-    let told = begin(&m, WHOLE, 0x0001);
-    let told = written(told.card, &m, WHOLE, 0, 0x0142);
-    shows(told, Answer::Done(0), 0x0073, false)
+    let reply = begin(&m, WHOLE, 0x0001);
+    let reply = written(reply.card, &m, WHOLE, 0, 0x0142);
+    shows(reply, done(0), 0x0073, false)
 }
 
 // 9, I: "reset, write 0041h, block outside: 88C1h, line high". One of the block's 24 bytes is outside; nothing is loaded.
 fn init_outside() -> bool {
     let mut m = [0u8; 8192];
     block(&mut m, 0, 0x40, 0, 0x80, 0);
-    let told = begin(&m, 39, 0x0041);
-    let line = shows(told, Answer::Done(0), 0x88C1, true);
-    let told = written(told.card, &m, WHOLE, 0, 0x0004);
-    let c = told.card;
+    let reply = begin(&m, 39, 0x0041);
+    let line = shows(reply, done(0), 0x88C1, true);
+    let reply = written(reply.card, &m, WHOLE, 0, 0x0004);
+    let c = reply.card;
     line & counters(c, 0, 0, 0, 0) & reads(c, 12, 0) & !c.initialized
 }
 
@@ -194,13 +200,13 @@ fn two_buffers() -> bool {
     put(&mut wanted, 0x4F, 0x01);
     copy(&mut wanted, 0x100, &f, 0, 200);
     copy(&mut wanted, 0x1FA, &f, 200, 100);
-    let told = arrive(c, &mut m, WHOLE, &f, 300, 0);
-    let both = shows(told, Answer::Received, 0x04F3, true) & slots(told, 2, 0) & same(&m, &wanted);
+    let reply = arrive(c, &mut m, WHOLE, &f, 300, 0);
+    let both = shows(reply, plain(RECEIVED), 0x04F3, true) & slots(reply, 2, 0) & same(&m, &wanted);
     ended(&mut wanted, 0x50, 0x03, 100);
     copy(&mut wanted, 0x2F4, &g, 0, 100);
-    let c = told.card;
-    let told = arrive(c, &mut m, WHOLE, &g, 100, 0);
-    both & shows(told, Answer::Received, 0x04F3, true) & slots(told, 3, 0) & same(&m, &wanted)
+    let c = reply.card;
+    let reply = arrive(c, &mut m, WHOLE, &g, 100, 0);
+    both & shows(reply, plain(RECEIVED), 0x04F3, true) & slots(reply, 3, 0) & same(&m, &wanted)
 }
 
 // 11, J: "second not owned: 46h". The frame is cut after 200 bytes, and is not counted as missed.
@@ -213,10 +219,10 @@ fn second_not_owned() -> bool {
     let mut wanted = m;
     put(&mut wanted, 0x43, 0x46);
     copy(&mut wanted, 0x100, &f, 0, 200);
-    let told = arrive(c, &mut m, WHOLE, &f, 300, 0);
-    shows(told, Answer::Cut, 0x04F3, true)
-        & slots(told, 1, 0)
-        & reads(told.card, 112, 0)
+    let reply = arrive(c, &mut m, WHOLE, &f, 300, 0);
+    shows(reply, plain(CUT), 0x04F3, true)
+        & slots(reply, 1, 0)
+        & reads(reply.card, 112, 0)
         & same(&m, &wanted)
 }
 
@@ -230,13 +236,15 @@ fn wrong_fcs() -> bool {
     let mut wanted = m;
     ended(&mut wanted, 0x40, 0x4B, 100);
     copy(&mut wanted, 0x100, &f, 0, 100);
-    let told = arrive(c, &mut m, WHOLE, &f, 100, 0);
-    let wrong = shows(told, Answer::Received, 0x04F3, true) & slots(told, 1, 0) & same(&m, &wanted);
+    let reply = arrive(c, &mut m, WHOLE, &f, 100, 0);
+    let wrong = shows(reply, plain(RECEIVED), 0x04F3, true)
+        & slots(reply, 1, 0)
+        & same(&m, &wanted);
     ended(&mut wanted, 0x48, 0x6B, 100);
     copy(&mut wanted, 0x200, &f, 0, 100);
-    let c = told.card;
-    let told = arrive(c, &mut m, WHOLE, &f, 100, 7);
-    wrong & shows(told, Answer::Received, 0x04F3, true) & slots(told, 0, 0) & same(&m, &wanted)
+    let c = reply.card;
+    let reply = arrive(c, &mut m, WHOLE, &f, 100, 7);
+    wrong & shows(reply, plain(RECEIVED), 0x04F3, true) & slots(reply, 0, 0) & same(&m, &wanted)
 }
 
 // 13, L: "status 83h, one retry: 0Bh". The frame of 100 bytes goes out with its FCS.
@@ -251,9 +259,9 @@ fn one_retry() -> bool {
     seal(&mut expected, 104);
     let mut wanted = m;
     ended(&mut wanted, 0x80, 0x0B, 0);
-    let told = turn(c, &mut m, WHOLE, &mut out, 4100, 1, false, false);
-    shows(told, Answer::Sent(104), 0x02F3, true)
-        & slots(told, 0, 1)
+    let reply = turn(c, &mut m, WHOLE, &mut out, 4100, 1, false, false);
+    shows(reply, sent(104), 0x02F3, true)
+        & slots(reply, 0, 1)
         & same(&m, &wanted)
         & same(&out, &expected)
 }
@@ -268,9 +276,9 @@ fn retry_failure() -> bool {
     let expected = out;
     let mut wanted = m;
     ended(&mut wanted, 0x80, 0x43, 0x0400);
-    let told = turn(c, &mut m, WHOLE, &mut out, 4100, 3, false, false);
-    shows(told, Answer::Failed, 0x02F3, true)
-        & slots(told, 0, 1)
+    let reply = turn(c, &mut m, WHOLE, &mut out, 4100, 3, false, false);
+    shows(reply, plain(FAILED), 0x02F3, true)
+        & slots(reply, 0, 1)
         & same(&m, &wanted)
         & same(&out, &expected)
 }

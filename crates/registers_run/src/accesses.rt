@@ -34,30 +34,30 @@ fn register(t: Tally, c: Card, r: u8) -> Tally {
 
 // RAP reads as the register number, and is never locked.
 fn rap(c: Card, r: u8) -> bool {
-    let told = c.read(0x12);
-    let after = told.card;
-    answers(told, 0, r as u16) & same_card(after, c) & !told.line
+    let reply = c.read(0x12);
+    let after = reply.card;
+    answers(reply, 0, r as u16) & same_card(after, c) & !reply.line
 }
 
 // A read changes nothing; a refused one has the table's number.
 fn read(c: Card, r: u8) -> bool {
     let stop = c.csr0.stop;
-    let told = c.read(0x10);
-    let after = told.card;
-    answers(told, table::read_number(r, stop), table::value(r, stop))
+    let reply = c.read(0x10);
+    let after = reply.card;
+    answers(reply, table::read_number(r, stop), table::value(r, stop))
         & same_card(after, c)
-        & !told.line
+        & !reply.line
 }
 
 // A write that is refused changes nothing; any other shows when the register is read, and changes nothing else.
 fn write_of(c: Card, r: u8, v: u16, shown: u16) -> bool {
     let stop = c.csr0.stop;
     let number = table::write_number(r, stop);
-    let told = write(c, 0x10, v);
-    let after = told.card;
+    let reply = write(c, 0x10, v);
+    let after = reply.card;
     if number == 0 {
         let rest = same_card(without(after, r), without(c, r));
-        return answers(told, 0, 0) & answers(after.read(0x10), 0, shown) & rest & !told.line;
+        return answers(reply, 0, 0) & answers(after.read(0x10), 0, shown) & rest & !reply.line;
     }
-    answers(told, number, 0) & same_card(after, c) & !told.line
+    answers(reply, number, 0) & same_card(after, c) & !reply.line
 }

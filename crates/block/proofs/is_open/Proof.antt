@@ -29,7 +29,13 @@ is-sound-requires : tie.Need-is-sound-requires
 is-sound-requires c κs = search needs
 
 returns-2 : tie.Need-returns-2
-returns-2 c = search open-is
+returns-2 c =
+    let head = c .before .before in
+    let check = head .before .before in
+    let words = check .before in
+    let state = words .before in
+    open-is _ _ _ _ _ _ _ (state .before .if1 .left) (state .state-in .ensures) (words .state-words .ensures) (check .right-fcs .ensures)
+    (head .is-head .ensures) (c .before .is-rest .ensures) (c .is-sound .ensures)
 
 pub is-open-spec : {M : Type 1} → statement M
 is-open-spec =

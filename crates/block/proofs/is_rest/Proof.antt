@@ -1,7 +1,7 @@
 -- `is_rest`: at each byte what is left to test comes to the whole.
 use mathlib.Core.Path.{_≡_}
 use mathlib.Core.Bool.{_&&_}
-use Prim.Native.Nat.{_*_, _≤_, _-_}
+use Prim.Native.Nat.{_*_, _≤_, _<_, _-_}
 use borrow.Author.Needs.{needs}
 use Rattle.card.specs.State.{WORDS}
 use Rattle.block.specs.Block.{CHECKED, unused, holds}
@@ -30,7 +30,7 @@ loop-less : tie.Need-loop-less Inv-loop μ-loop
 loop-less c = search needs
 
 loop-again : tie.Need-loop-again Inv-loop μ-loop
-loop-again c = (search needs, search rest-goes)
+loop-again c = let h : c .before .before .loop .at < CHECKED = search needs in (search needs, search rest-goes)
 
 returns : tie.Need-returns Inv-loop μ-loop
 returns c = search rest-ends
