@@ -1,4 +1,6 @@
 // What a C program calls: the card's acts on numbers, lent slices and the state block.
+#![tactic(auto)]
+
 ghost use Rattle.std.specs.Prelude.{◌≡◌, ◌≤◌, length};
 ghost use Rattle.bus.specs.Bits.{weigh};
 ghost use Rattle.bus.specs.Bus.{run, leaves};

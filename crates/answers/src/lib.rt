@@ -1,4 +1,6 @@
 // What a call answers: refusals in the table's order, the words, and the events that a walk or a turn leaves in the registers.
+#![tactic(auto)]
+
 ghost use Rattle.std.specs.Prelude.{◌≡◌};
 ghost use Rattle.answers.specs.Answers.{plain, done, sent, refusal};
 ghost use Rattle.answers.specs.Refusals.{read_number, write_number, arrive_number, turn_number};

@@ -1,4 +1,6 @@
 // The state block: the card's state in 512 lent bytes, read and written.
+#![tactic(auto)]
+
 ghost use Rattle.std.specs.Prelude.{◌≡◌, ◌*◌, ◌≤◌, length};
 ghost use Rattle.bus.specs.Words.{overwritten};
 ghost use Rattle.card.specs.State.{WORDS};

@@ -7,7 +7,7 @@ use mathlib.Core.Logic.{◌⊎◌, inl, inr, ⊎_elim}
 use mathlib.Core.List.{List, [], ◌∷◌}
 use lib.ListN.{length, get_or, set, length-set}
 use lib.Seq.{get_or-set_other}
-use Rattle.bus.specs.Bus.{Bus, done, load, store, Ended, run}
+use Rattle.bus.specs.Bus.{Bus, done, load, store, run}
 use Rattle.bus.specs.Within.{Keeps, Within}
 use Rattle.bus.specs.Secrecy.{Agree, Apart, addresses, Secret}
 
@@ -48,7 +48,7 @@ module _ (L : List ℕ → ℕ → Type 0) (S : List ℕ → ℕ → ℕ → Typ
   unfolding Keeps run
   ended E b s (done a) m h = h
   ended E b s (load a k) m h = ended E b s (k (get_or m a 0)) m h.1
-  ended E b s (store a x p) m h = ended E _ _ p (set m a x) h.1
+  ended E b s (store a x p) m h = ended E (λ y. (y ≡ a) ⊎ (b y ⊎ L m y)) (λ y z. s y z ⊎ S m y z) p (set m a x) h.1
 
   pub within_ends : {A : Type 0} (E : List ℕ → A → Type 0) (p : Bus A) (m : List ℕ) → Within L S E p m → E (run p m).memory (run p m).answer
   within_ends E p m = ended E _ _ p m
@@ -66,7 +66,7 @@ module _ (L : List ℕ → ℕ → Type 0) (S : List ℕ → ℕ → ℕ → Typ
       elsewhere E b s (store a v p) m f i h x n =
           let may : T a × ((m : List ℕ) → I m → I (set m a v)) =
           ⊎_elim (λ (q : s a v). f a v q) (λ (q : S m a v). (within m a v i q, λ m' j. holds m m' a v i q j)) h.0 in
-          elsewhere E _ _ p (set m a v)
+          elsewhere E (λ y. (y ≡ a) ⊎ (b y ⊎ L m y)) (λ y z. s y z ⊎ S m y z) p (set m a v)
           (λ y w. ⊎_elim (λ (q : s y w). f y w q) (λ (q : S m y w). (within m y w i q, λ m' j. holds m m' y w i q j))) (may.1 m i) h.1 x n
           ∙ get_or-set_other m a x v 0 (λ e. n (subst T (sym e) may.0))
 
@@ -99,7 +99,7 @@ module _ (L : List ℕ → ℕ → Type 0) (S : List ℕ → ℕ → ℕ → Typ
       along E s₁ s₂ R b s (store a v p) m₁ m₂ f g i h e k =
           let held : I (set m₁ a v) = ⊎_elim (λ (q : s a v). g a v q m₁ i) (λ (q : S m₁ a v). holds m₁ m₁ a v i q i) h.0 in
           let rest : Told s₁ s₂ p (set m₁ a v) (set m₂ a v) =
-          along E s₁ s₂ (λ x. (x ≡ a) ⊎ R x) _ _ p (set m₁ a v) (set m₂ a v)
+          along E s₁ s₂ (λ x. (x ≡ a) ⊎ R x) (λ y. (y ≡ a) ⊎ (b y ⊎ L m₁ y)) (λ y z. s y z ⊎ S m₁ y z) p (set m₁ a v) (set m₂ a v)
           (λ x. ⊎_elim (λ (q : Q x). inr (f x (inl q)))
           (λ (q : (x ≡ a) ⊎ (b x ⊎ L m₁ x)). ⊎_elim (λ (c : x ≡ a). inl c)
           (λ (c : b x ⊎ L m₁ x). inr (⊎_elim (λ (d : b x). f x (inr d)) (λ (d : L m₁ x). f x (inl (within m₁ x i d))) c)) q))

@@ -3,7 +3,7 @@ use Prim.Native.Nat.{ℕ, zero, suc, ◌+◌, ◌*◌, ◌<◌, suc-le-suc}
 use native.Mathlib.Nat.{suc-add, add-suc, add-zero, zero-lt-suc}
 use native.Mathlib.Numerals.{add-one}
 use native.Mathlib.Omega.{arith}
-use mathlib.Core.Path.{◌≡◌, refl, sym, ap, subst, ◌∙◌}
+use mathlib.Core.Path.{◌≡◌, refl, sym, subst, ◌∙◌}
 use mathlib.Core.Bool.{Bool, true, false}
 use mathlib.Core.Logic.{◌⊎◌, inl, inr, ⊎_elim}
 use mathlib.Core.List.{List, [], ◌∷◌}
@@ -37,7 +37,7 @@ module _ (L : List ℕ → ℕ → Type 0) (S : List ℕ → ℕ → ℕ → Typ
   keeps_more E b₁ b₂ s₁ s₂ (load a h) m f g k = (f a k.0, keeps_more E b₁ b₂ s₁ s₂ (h (get_or m a 0)) m f g k.1)
   keeps_more E b₁ b₂ s₁ s₂ (store a b p) m f g k = (
     g a b k.0,
-    keeps_more E _ _ _ _ p (set m a b)
+    keeps_more E (λ y. (y ≡ a) ⊎ (b₁ y ⊎ L m y)) (λ y. (y ≡ a) ⊎ (b₂ y ⊎ L m y)) (λ y z. s₁ y z ⊎ S m y z) (λ y z. s₂ y z ⊎ S m y z) p (set m a b)
         (λ x. ⊎_elim (λ (q : (x ≡ a) ⊎ (b₁ x ⊎ L m x)). inl (⊎_elim (λ (e : x ≡ a). inl e) (λ (r : b₁ x ⊎ L m x). inr (f x r)) q)) (λ (l : L (set m a b) x). inr l))
         (λ x y. ⊎_elim (λ (q : s₁ x y ⊎ S m x y). inl (g x y q)) (λ (l : S (set m a b) x y). inr l))
         k.1,
@@ -49,7 +49,7 @@ module _ (L : List ℕ → ℕ → Type 0) (S : List ℕ → ℕ → ℕ → Typ
   unfolding Keeps
   keeps_ends D E b s (done a) m f k = f m a k
   keeps_ends D E b s (load a h) m f k = (k.0, keeps_ends D E b s (h (get_or m a 0)) m f k.1)
-  keeps_ends D E b s (store a x p) m f k = (k.0, keeps_ends D E _ _ p (set m a x) f k.1)
+  keeps_ends D E b s (store a x p) m f k = (k.0, keeps_ends D E (λ y. (y ≡ a) ⊎ (b y ⊎ L m y)) (λ y z. s y z ⊎ S m y z) p (set m a x) f k.1)
 
   -- a program that is done
   pub within_done : {A : Type 0} (E : List ℕ → A → Type 0) (a : A) (m : List ℕ) → E m a → Within L S E (done a) m
@@ -78,7 +78,7 @@ module _ (L : List ℕ → ℕ → Type 0) (S : List ℕ → ℕ → ℕ → Typ
   keeps_then D E b s (load a f) k m h next = (h.0, keeps_then D E b s (f (get_or m a 0)) k m h.1 next)
   keeps_then D E b s (store a v p) k m h next = (
     h.0,
-    keeps_then D E _ _ p k (set m a v) h.1 (λ c m' b' s' e d f g. next c m' b' s' e d (λ x q. f x (inl (inr q))) (λ x y q. g x y (inl q))),
+    keeps_then D E (λ y. (y ≡ a) ⊎ (b y ⊎ L m y)) (λ y z. s y z ⊎ S m y z) p k (set m a v) h.1 (λ c m' b' s' e d f g. next c m' b' s' e d (λ x q. f x (inl (inr q))) (λ x y q. g x y (inl q))),
   )
 
   pub within_then : {A B : Type 0} (D : List ℕ → A → Type 0) (E : List ℕ → B → Type 0) (p : Bus A) (k : A → Bus B) (m : List ℕ) → Within L S D p m
@@ -121,7 +121,7 @@ module _ (L : List ℕ → ℕ → Type 0) (S : List ℕ → ℕ → ℕ → Typ
     (
       inr (subst (L m) (add-one a) (h 1 (omega arith))),
       within_then (λ n ws. E n (joined (get_or m a 0) (get_or m (suc a) 0) ∷ ws)) E (words (suc (suc a)) k) _ m
-          (within_words _ k (suc (suc a)) m (λ i l. let d : a + (i + 2) ≡ suc (suc a) + i = omega arith in subst (L m) d (h (i + 2) (omega arith))) e)
+          (within_words (λ n ws. E n (joined (get_or m a 0) (get_or m (suc a) 0) ∷ ws)) k (suc (suc a)) m (λ i l. let d : a + (i + 2) ≡ suc (suc a) + i = omega arith in subst (L m) d (h (i + 2) (omega arith))) e)
           (λ ws m' r d. within_done E _ m' d),
     ),
   )
@@ -133,7 +133,7 @@ module _ (L : List ℕ → ℕ → Type 0) (S : List ℕ → ℕ → ℕ → Typ
   keeps_bytes E b s a [] m h e = e
   keeps_bytes E b s a (x ∷ bs) m h e = (
     subst (λ (c : ℕ). s c x ⊎ S m c x) (add-zero a) (h 0 (zero-lt-suc (length bs))),
-    keeps_bytes E _ _ (suc a) bs (set m a x)
+    keeps_bytes E (λ y. (y ≡ a) ⊎ (b y ⊎ L m y)) (λ y z. s y z ⊎ S m y z) (suc a) bs (set m a x)
         (λ i l. inl (subst (λ (c : ℕ). s c (get_or bs i 0) ⊎ S m c (get_or bs i 0)) (add-suc a i ∙ sym (suc-add a i)) (h (suc i) (suc-le-suc l)))) e,
   )
 

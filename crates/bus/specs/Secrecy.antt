@@ -1,6 +1,6 @@
 -- What it means that a program tells nothing of memory but what it may load.
 use Rattle.std.specs.Prelude.{ℕ, ◌≡◌, ◌⊎◌, List, [], ◌∷◌, length, get_or, set}
-use Rattle.bus.specs.Bus.{Bus, done, load, store, Ended, run}
+use Rattle.bus.specs.Bus.{Bus, done, load, store, run}
 
 -- two memories of one length that agree on the addresses of Q, so far as they are inside
 pub record Agree (Q : ℕ → Type 0) (m₁ m₂ : List ℕ) : Type 0 where

@@ -1,5 +1,7 @@
 // What the crates above share: a bit's weight, words of two bytes and copies between slices. The crate's definitions and laws are
 // about bus programs.
+#![tactic(auto)]
+
 ghost use Rattle.std.specs.Prelude.{◌≡◌, ◌+◌, ◌*◌, ◌≤◌, length};
 ghost use Rattle.bus.specs.Bits.{weigh};
 ghost use Rattle.bus.specs.Words.{joined, bytes_of, part, words_at, overwritten};

@@ -1,4 +1,6 @@
 // The card by value: its state, and the acts on it.
+#![tactic(auto)]
+
 mod acts;
 mod arrival;
 mod initialization;

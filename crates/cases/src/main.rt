@@ -1,4 +1,6 @@
 // Runs the forty cases of docs/CASES.md and prints how many were run and how many came out wrong.
+#![tactic(auto)]
+
 mod bytes;
 mod cards;
 mod edges;

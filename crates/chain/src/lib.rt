@@ -1,4 +1,6 @@
 // The start of a frame in a transmit ring, and the chain of its descriptors.
+#![tactic(auto)]
+
 ghost use Rattle.std.specs.Prelude.{◌≡◌, ◌<◌, length};
 ghost use Rattle.bus.specs.Bus.{run};
 ghost use Rattle.ring.specs.Slots.{slots};

@@ -1,4 +1,6 @@
 // The frame check sequence of IEEE 802.3: bytes in, number out.
+#![tactic(auto)]
+
 ghost use Rattle.std.specs.Prelude.{◌≡◌, ◌<◌};
 ghost use Rattle.fcs.specs.Fcs.{register_of, fcs_of, right_fcs, hash_of};
 

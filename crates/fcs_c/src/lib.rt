@@ -1,5 +1,7 @@
 // The frame check sequence for programs in C and Rust: the functions of the crate fcs under names that a program links.
 // A slice is passed as a pointer and a length.
+#![tactic(auto)]
+
 ghost use Rattle.std.specs.Prelude.{◌≡◌, ◌<◌};
 ghost use Rattle.fcs.specs.Fcs.{fcs_of, right_fcs, hash_of};
 

@@ -1,4 +1,6 @@
 // The address filter: which destinations are ours.
+#![tactic(auto)]
+
 ghost use Rattle.std.specs.Prelude.{◌≡◌, ◌<◌};
 ghost use Rattle.filter.specs.Filter.{alike, station, hashed, group, addressed, ours};
 

@@ -1,4 +1,6 @@
 // A frame's way through the receive ring.
+#![tactic(auto)]
+
 ghost use Rattle.std.specs.Prelude.{◌≡◌, ◌≤◌, ◌<◌, length};
 ghost use Rattle.bus.specs.Bus.{Bus, run};
 ghost use Rattle.ring.specs.declared.Slot.{Slot};

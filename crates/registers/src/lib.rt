@@ -1,4 +1,6 @@
 // The card's registers: CSR0 and what happens to it, the registers that are written, and the table of all.
+#![tactic(auto)]
+
 mod control;
 mod table;
 mod writing;

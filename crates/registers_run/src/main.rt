@@ -1,5 +1,7 @@
 // Compares every register number, and the offsets around 10h, 12h and 14h, with a table written from document 01 by hand,
 // and prints how many accesses were compared and how many came out wrong.
+#![tactic(auto)]
+
 mod accesses;
 mod cards;
 mod offsets;

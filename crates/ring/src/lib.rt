@@ -1,4 +1,6 @@
 // Rings of descriptors in lent memory: slots, counters, and reading a descriptor.
+#![tactic(auto)]
+
 ghost use Rattle.std.specs.Prelude.{◌≡◌, ◌+◌, ◌*◌, ◌≤◌, ◌<◌, length};
 ghost use Rattle.bus.specs.Words.{joined, part};
 ghost use Rattle.bus.specs.Bus.{run};

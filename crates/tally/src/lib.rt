@@ -1,4 +1,6 @@
 // The tally of a program that compares, the one line that it prints, and whether bytes are the same.
+#![tactic(auto)]
+
 ghost use Rattle.std.specs.Prelude.{◌≡◌};
 ghost use Rattle.tally.specs.Counting.{nothing, one_more, alike};
 

@@ -1,4 +1,6 @@
 // A transmit turn on a ring in lent memory.
+#![tactic(auto)]
+
 ghost use Rattle.std.specs.Prelude.{◌≡◌, ◌+◌, ◌≤◌, ◌<◌, not, length, take};
 ghost use Rattle.fcs.specs.Fcs.{fcs_of};
 ghost use Rattle.bus.specs.Words.{bytes_of, overwritten};

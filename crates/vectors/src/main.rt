@@ -1,4 +1,6 @@
 // Runs published vectors of the FCS and of the hash, and prints how many were run and how many came out wrong.
+#![tactic(auto)]
+
 mod frames;
 mod hashes;
 mod texts;
