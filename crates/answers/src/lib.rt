@@ -48,7 +48,7 @@ pub const LEAST_SLICE: usize = 4100;
 pub const LAST_REPORT: u32 = 5;
 
 // What is answered: the table's number or 0, a word or 0, a read's value or 0, the length sent or 0.
-#[derive(Drop)]
+#[derive(Clone, Copy)]
 pub struct Answer {
     pub number: u8,
     pub word: u8,
@@ -57,7 +57,7 @@ pub struct Answer {
 }
 
 // What a walk or a turn leaves besides memory and a slot: bits of CSR0, a rise of CSR112, and the answer.
-#[derive(Drop)]
+#[derive(Clone, Copy)]
 pub struct Event {
     pub on: u16,
     pub off: u16,

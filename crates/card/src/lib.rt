@@ -17,7 +17,7 @@ use ring::Ring;
 pub const WORDS: usize = 23;
 
 // The card's state. CSR112 counts missed frames; a successful initialization loads all that stands below it.
-#[derive(Drop)]
+#[derive(Clone, Copy)]
 pub struct Card {
     pub csr0: Csr0,
     pub written: Written,
@@ -31,7 +31,7 @@ pub struct Card {
 }
 
 // The card handed back, with the answer and the level of the interrupt line.
-#[derive(Drop)]
+#[derive(Clone, Copy)]
 pub struct Reply {
     pub card: Card,
     pub answer: Answer,
@@ -39,7 +39,7 @@ pub struct Reply {
 }
 
 // A card after an initialization was tried, and whether it may start.
-#[derive(Drop)]
+#[derive(Clone, Copy)]
 pub struct Tried {
     pub card: Card,
     pub ready: bool,

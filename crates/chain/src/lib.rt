@@ -21,7 +21,7 @@ const ENP: u8 = 0x01;
 const MOST: u16 = 4096;
 
 // What a turn finds where a frame should start.
-#[derive(Drop)]
+#[derive(Clone, Copy)]
 pub enum Start {
     NoMemory(Slot),
     Nothing(Slot),
@@ -29,7 +29,7 @@ pub enum Start {
 }
 
 // How far a chain was read: the slot after it, its slots and its bytes.
-#[derive(Drop)]
+#[derive(Clone, Copy)]
 pub struct Reach {
     pub slot: Slot,
     pub slots: u32,
@@ -37,7 +37,7 @@ pub struct Reach {
 }
 
 // How a chain ends: with ENP, outside memory, at a slot that isn't the card's, or with too many bytes.
-#[derive(Drop)]
+#[derive(Clone, Copy)]
 pub enum Close {
     Whole,
     Memory,
@@ -46,14 +46,14 @@ pub enum Close {
 }
 
 // A chain that is being read.
-#[derive(Drop)]
+#[derive(Clone, Copy)]
 pub enum Chain {
     Open(Reach),
     Over(Close, Reach),
 }
 
 // A chain that was read.
-#[derive(Drop)]
+#[derive(Clone, Copy)]
 pub struct Closed {
     pub close: Close,
     pub reach: Reach,

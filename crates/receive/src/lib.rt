@@ -26,7 +26,7 @@ const STP: u8 = 0x02;
 const ENP: u8 = 0x01;
 
 // How a walk ends.
-#[derive(Drop)]
+#[derive(Clone, Copy)]
 pub enum Ending {
     Memory,
     Missed,
@@ -35,7 +35,7 @@ pub enum Ending {
 }
 
 // How a walk ended, and the slot that is current then.
-#[derive(Drop)]
+#[derive(Clone, Copy)]
 pub struct Walked {
     pub ending: Ending,
     pub slot: Slot,
@@ -43,7 +43,7 @@ pub struct Walked {
 
 // The current slot of a walk: how many slots the frame may use from it on, its descriptor, how many bytes of the frame went
 // before, and its STP.
-#[derive(Drop)]
+#[derive(Clone, Copy)]
 struct Current {
     left: u32,
     slot: Slot,
@@ -53,7 +53,7 @@ struct Current {
 }
 
 // What comes after a slot: the walk is over, or goes on with the next slot and its descriptor.
-#[derive(Drop)]
+#[derive(Clone, Copy)]
 enum Step {
     Over(Walked),
     On(Slot, Descriptor),

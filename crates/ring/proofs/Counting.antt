@@ -1,12 +1,11 @@
 -- What the code counts with, which knows the number of slots by another name.
 use mathlib.Core.Path.{◌≡◌, refl, sym, ap, ◌∙◌}
 use mathlib.Core.Bool.{Bool, ◌&&◌}
-use Prim.Native.Nat.{ℕ, ◌+◌, ◌-◌, ◌*◌, ◌%◌, ◌≤◌, ◌<◌}
+use Prim.Native.Nat.{ℕ, ◌+◌, ◌-◌, ◌%◌, ◌≤◌, ◌<◌}
 use lib.Dec.{ltb, eqb}
 use borrow.Author.Tests.{lt-ltb, le-ltb}
 use Rattle.bus.proofs.Choices.{if_true, if_false}
 use Rattle.ring.specs.declared.Slot.{Slot}
-use Rattle.ring.specs.declared.Counter.{Counter}
 use Rattle.ring.specs.declared.Ring.{Ring}
 use Rattle.ring.specs.Slots.{slots, slot_shown, length_shown, next}
 use Rattle.ring.specs.Loading.{is_length, kept_by_base, loaded}

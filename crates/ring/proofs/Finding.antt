@@ -9,7 +9,7 @@ use native.Mathlib.Omega.{arith}
 use denote.Enum.Declared.{tag_of}
 use lib.ListN.{length, get_or}
 use lib.Dec.{leb, lit<}
-use borrow.Author.Tests.{le-leb, lt-leb, leb_true}
+use borrow.Author.Tests.{le-leb, lt-leb, leb-true}
 use Rattle.bus.specs.Choice.{if◌then◌else◌}
 use Rattle.bus.specs.Words.{joined, part}
 use Rattle.bus.specs.Bus.{run, Ended, done, reads, ◌>>=◌}
@@ -78,7 +78,7 @@ module _ (m : List ℕ) (r : Ring) (i : Slot) (at : ℕ) (e : at ≡ place r i) 
 -- an owned descriptor is inside, and says what its bytes say
 inside : (b : Bool) (at n : ℕ) (bs : List ℕ) (d : Descriptor) → leb at n ≡ b → (if b then found_in bs else Outside) ≡ Owned d → at ≤ n
 unfolding if◌then◌else◌
-inside true at n bs d t e = leb_true at n t
+inside true at n bs d t e = leb-true at n t
 inside false at n bs d t e = let z : ◌≡◌ {A = ℕ} 0 1 = cc in omega arith
 
 pub found_inside : (n : ℕ) (r : Ring) (i : Slot) (m : List ℕ) (d : Descriptor) → found n r i m ≡ Owned d → place r i + 8 ≤ n

@@ -7,10 +7,10 @@ use mathlib.Core.Logic.{◌⊎◌}
 use mathlib.Core.List.{List}
 use lib.ListN.{get_or}
 use lib.Dec.{leb, lit<}
-use borrow.Author.Tests.{leb_true}
+use borrow.Author.Tests.{leb-true}
 use Rattle.bus.specs.Choice.{if◌then◌else◌}
 use Rattle.bus.specs.Words.{part}
-use Rattle.bus.specs.Bus.{Bus, Ended, run, done, reads, ◌>>=◌}
+use Rattle.bus.specs.Bus.{Bus, Ended, reads, ◌>>=◌}
 use Rattle.bus.specs.Within.{Keeps, Within}
 use Rattle.bus.proofs.Bytes.{get_d_part}
 use Rattle.bus.proofs.Within.{so_if, none, keeps_more, keeps_then, within_done, within_then, within_reads}
@@ -36,7 +36,7 @@ so_by P (Owned d) x y g p q r = r d refl
 owns : (b o : Bool) (x : ℕ) (bs : List ℕ) (d : Descriptor) → leb 128 x ≡ o
     → (if b then (if o then Owned (described bs) else NotOwned) else Outside) ≡ Owned d → 128 ≤ x
 unfolding if◌then◌else◌
-owns true true x bs d t e = leb_true 128 x t
+owns true true x bs d t e = leb-true 128 x t
 owns true false x bs d t e = let z : ◌≡◌ {A = ℕ} 0 1 = cc in omega arith
 owns false o x bs d t e = let z : ◌≡◌ {A = ℕ} 0 1 = cc in omega arith
 

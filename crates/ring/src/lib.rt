@@ -12,15 +12,15 @@ ghost use Rattle.ring.specs.Descriptor.{count_of, described, look};
 const OWN: u8 = 0x80;
 
 // A slot number counts from zero.
-#[derive(Drop)]
+#[derive(Clone, Copy)]
 pub struct Slot(pub u16);
 
 // A register's counter ends at minus one.
-#[derive(Drop)]
+#[derive(Clone, Copy)]
 pub struct Counter(pub u16);
 
 // Where a ring lies, how many slots it has and which is current.
-#[derive(Drop)]
+#[derive(Clone, Copy)]
 pub struct Ring {
     pub base: u32,
     pub length: u16,
@@ -28,7 +28,7 @@ pub struct Ring {
 }
 
 // A buffer's address and byte count, and the status byte.
-#[derive(Drop)]
+#[derive(Clone, Copy)]
 pub struct Descriptor {
     pub address: u32,
     pub status: u8,
@@ -36,7 +36,7 @@ pub struct Descriptor {
 }
 
 // What is found at a slot.
-#[derive(Drop)]
+#[derive(Clone, Copy)]
 pub enum Found {
     Outside,
     NotOwned,

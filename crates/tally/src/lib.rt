@@ -5,7 +5,7 @@ ghost use Rattle.std.specs.Prelude.{◌≡◌};
 ghost use Rattle.tally.specs.Counting.{nothing, one_more, alike};
 
 // How many things were compared, and how many of them came out wrong.
-#[derive(Drop)]
+#[derive(Clone, Copy)]
 pub struct Tally {
     pub run: u64,
     pub wrong: u64,

@@ -44,7 +44,7 @@ const DRTY: u16 = 0x0020;
 const DXMTFCS: u16 = 0x0008;
 
 // What the wire says of a frame: 0 sent, 1 one retry, 2 more, 3 retry failure, 4 late collision, 5 lost carrier; and two flags.
-#[derive(Drop)]
+#[derive(Clone, Copy)]
 pub struct Report {
     pub result: u32,
     pub deferred: bool,
@@ -52,7 +52,7 @@ pub struct Report {
 }
 
 // What a turn comes to.
-#[derive(Drop)]
+#[derive(Clone, Copy)]
 pub enum Outcome {
     Idle,
     OutOfMemory,
@@ -62,14 +62,14 @@ pub enum Outcome {
 }
 
 // What a turn came to, and the slot that is current then.
-#[derive(Drop)]
+#[derive(Clone, Copy)]
 pub struct Turned {
     pub outcome: Outcome,
     pub slot: Slot,
 }
 
 // A frame to send: its first slot, how far its chain was read, and whether its FCS is appended.
-#[derive(Drop)]
+#[derive(Clone, Copy)]
 struct Outgoing {
     first: Slot,
     reach: Reach,
