@@ -1,14 +1,10 @@
 -- The two ways in which a walk begins.
-use mathlib.Core.Path.{◌≡◌, sym, ap, ◌∙◌}
+use mathlib.Core.Path.{◌≡◌, refl, sym, ap, ◌∙◌}
 use mathlib.Core.List.{List}
-use mathlib.Core.Logic.{◌⊎◌, inl, inr}
 use Prim.Native.Nat.{ℕ, ◌-◌}
-use native.Mathlib.Omega.{arith}
 use lib.ListN.{length}
-use denote.Enum.Declared.{tag_of}
 use Rattle.bus.specs.Bus.{Bus, done, run, Ended}
 use Rattle.bus.proofs.Run.{run_done, after}
-use Rattle.ring.specs.contracts.Found.{the_type}
 use Rattle.ring.specs.declared.Slot.{Slot}
 use Rattle.ring.specs.declared.Ring.{Ring}
 use Rattle.ring.specs.declared.Descriptor.{Descriptor}
@@ -24,14 +20,13 @@ use Rattle.receive.specs.Walk.{walk, fill, walked}
 use Rattle.receive.specs.Inner.Step.{remaining, ending_of}
 
 -- the first slot is outside, or not owned
-refused : (i : Slot) (m : List ℕ) (k : Descriptor → Bus Walked) (found : Found) → (tag_of the_type found ≡ 0) ⊎ (tag_of the_type found ≡ 1)
+refused : (i : Slot) (m : List ℕ) (k : Descriptor → Bus Walked) (found : Found) → ((d : Descriptor) → found ≡ Owned d → ⊥)
     → run (by found outside: (done (walked Memory i)) not_owned: (done (walked Missed i)) owned: k) m
     ≡ record { answer = record { ending = ending_of found; slot = i }; memory = m }
 unfolding by◌outside:◌not_owned:◌owned:◌ walked ending_of
 refused i m k Outside h = run_done _ m
 refused i m k NotOwned h = run_done _ m
-refused i m k (Owned d) (inl h) = absurd (omega arith)
-refused i m k (Owned d) (inr h) = absurd (omega arith)
+refused i m k (Owned d) h = absurd (h d refl)
 
 module _ (r : Ring) (f : List ℕ) (end : ℕ) (m : List ℕ) (found : Found)
     (l : run (look (length m) r r.slot) m ≡ record { answer = found; memory = m }) where
@@ -56,7 +51,7 @@ module _ (r : Ring) (f : List ℕ) (end : ℕ) (m : List ℕ) (found : Found)
       found
       l
 
-  pub walk_refused : (e : Ending) → (tag_of the_type found ≡ 0) ⊎ (tag_of the_type found ≡ 1)
+  pub walk_refused : (e : Ending) → ((d : Descriptor) → found ≡ Owned d → ⊥)
       → e ≡ ending_of found
       → run (walk (length m) r f end) m ≡ record { answer = record { ending = e; slot = r.slot }; memory = m }
   walk_refused e h q = decided ∙ refused r.slot m _ found h ∙ ap (λ (y : Ending). record { answer = record { ending = y; slot = r.slot }; memory = m }) (sym q)

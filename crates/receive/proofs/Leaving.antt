@@ -1,22 +1,19 @@
 -- What becomes of one slot of a walk, by the ways through the code.
 use mathlib.Core.Path.{◌≡◌, sym, ap, ◌∙◌}
-use mathlib.Core.List.{List, [], ◌∷◌}
-use mathlib.Core.Logic.{◌⊎◌}
+use mathlib.Core.List.{List}
 use Prim.Native.Nat.{ℕ, ◌+◌, ◌*◌, ◌/◌, ◌%◌}
 use native.Mathlib.Nat.{mul-add-mod_self_left}
 use native.Mathlib.Omega.{arith}
 use lib.ListN.{length, set}
-use denote.Enum.Declared.{tag_of}
 use Rattle.bus.specs.Words.{bytes_of, overwritten}
 use Rattle.bus.specs.Bus.{Bus, done, bytes, run, ◌>>◌}
 use Rattle.bus.proofs.Run.{run_done, run_bytes, after}
-use Rattle.ring.specs.contracts.Found.{the_type}
 use Rattle.ring.proofs.Finding.{by_outside, by_other, by_unowned}
 use Rattle.ring.specs.declared.Slot.{Slot}
 use Rattle.ring.specs.declared.Ring.{Ring}
 use Rattle.ring.specs.declared.Descriptor.{Descriptor}
 use Rattle.ring.specs.declared.Found.{Found}
-use Rattle.ring.specs.declared.Found.TheVariants.{Owned}
+use Rattle.ring.specs.declared.Found.TheVariants.{Outside, Owned}
 use Rattle.ring.specs.Slots.{next, place}
 use Rattle.ring.specs.Status.{ERR}
 use Rattle.ring.specs.Descriptor.{look, by◌outside:◌not_owned:◌owned:◌}
@@ -65,13 +62,13 @@ ended_is r k end i stp at m m₁ m₂ w ea em el =
 
 module _ (r : Ring) (i : Slot) (stp : ℕ) (m m' : List ℕ) where
   -- the next one is outside, or not owned
-  pub stop_outside : (found : Found) (w : Walked) → tag_of the_type found ≡ 0
+  pub stop_outside : (found : Found) (w : Walked) → found ≡ Outside
       → run (leave r i stp Memory) m ≡ record { answer = w; memory = m' }
       → run (stops_at r i stp found) m ≡ record { answer = w; memory = m' }
   unfolding merr stops_at
   stop_outside found w h e = ap (λ (p : Bus Walked). run p m) (by_outside (merr r i stp) (cut r i stp) found h) ∙ e
 
-  pub stop_other : (found : Found) (w : Walked) → (tag_of the_type found ≡ 1) ⊎ (tag_of the_type found ≡ 2)
+  pub stop_other : (found : Found) (w : Walked) → (found ≡ Outside → ⊥)
       → run (leave r i (stp + ERR + BUFF) Cut) m ≡ record { answer = w; memory = m' }
       → run (stops_at r i stp found) m ≡ record { answer = w; memory = m' }
   unfolding cut stops_at
@@ -99,7 +96,7 @@ module _ (r : Ring) (i : Slot) (stp : ℕ) (m m' : List ℕ) where
         found
         l)
 
-    pub next_stops : (w : Walked) → (tag_of the_type found ≡ 0) ⊎ (tag_of the_type found ≡ 1)
+    pub next_stops : (w : Walked) → ((d : Descriptor) → found ≡ Owned d → ⊥)
         → run (stops_at r i stp found) m ≡ record { answer = w; memory = m' }
         → run (beyond (length m) r i stp on) m ≡ run (onward (Over w) on) m'
     unfolding onward stops_at

@@ -2,15 +2,15 @@
 -- at a slot of the ring.
 use Prim.Native.Nat.{ℕ, zero, suc, ◌+◌, ◌-◌, ◌≤◌, ◌<◌}
 use native.Mathlib.Omega.{arith}
-use mathlib.Core.Path.{◌≡◌, refl, sym, ap, subst}
+use mathlib.Core.Path.{◌≡◌, subst}
 use mathlib.Core.Logic.{◌⊎◌, inl, inr}
 use mathlib.Core.List.{List}
-use lib.ListN.{length, get_or, take, drop, length-take}
+use lib.ListN.{length, take, length-take}
 use lib.Dec.{lit<}
-use Rattle.bus.specs.Bus.{Bus, done, bytes, run, ◌>>◌}
+use Rattle.bus.specs.Bus.{Bus, done, bytes, ◌>>◌}
 use Rattle.bus.specs.Words.{bytes_of}
 use Rattle.bus.specs.Within.{Keeps, Within}
-use Rattle.bus.proofs.Within.{so_if, none, keeps_more, keeps_bytes, keeps_then, within_done, within_store, within_then, within_next, within_bytes}
+use Rattle.bus.proofs.Within.{so_if, none, keeps_more, keeps_bytes, keeps_then, within_done, within_store, within_next, within_bytes}
 use Rattle.ring.specs.declared.Slot.{Slot}
 use Rattle.ring.specs.declared.Ring.{Ring}
 use Rattle.ring.specs.declared.Descriptor.{Descriptor}

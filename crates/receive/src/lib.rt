@@ -119,7 +119,7 @@ fn stops_at(memory: &mut [u8], ring: Ring, slot: Slot, stp: u8, found: Found) ->
 // The frame goes beyond a slot: the next one is read.
 fn beyond(memory: &mut [u8], ring: Ring, slot: Slot, stp: u8) -> Step
     requires { Fits (length memory.old) ring slot × (stp ≤ STP) }
-    ensures memory_value { (on : Slot → Descriptor → Bus Walked) → run (beyond (length memory.old) ring slot stp on) memory.old ≡ run (onward result on) memory.new }
+    ensures same_run { (on : Slot → Descriptor → Bus Walked) → run (beyond (length memory.old) ring slot stp on) memory.old ≡ run (onward result on) memory.new }
     ensures onto { Onto result (Fits (length memory.old) ring) }
 {
     let next = ring.next(slot);
@@ -134,7 +134,7 @@ fn beyond(memory: &mut [u8], ring: Ring, slot: Slot, stp: u8) -> Step
 // A slot's buffer takes what fits of the frame, and what comes after the slot is found out.
 fn fill_slot(memory: &mut [u8], ring: Ring, current: Current, frame: &[u8], end: u8) -> Step
     requires { Kept (length memory.old) ring frame.now current × (end < 128) }
-    ensures memory_value { run (remaining (length memory.old) ring frame.now end current) memory.old ≡ run (onward result (resumed (length memory.old) ring frame.now end current)) memory.new }
+    ensures same_run { run (remaining (length memory.old) ring frame.now end current) memory.old ≡ run (onward result (resumed (length memory.old) ring frame.now end current)) memory.new }
     ensures onto { Onto result (Goes (length memory.old) ring frame.now current) }
 {
     let slot = current.slot;

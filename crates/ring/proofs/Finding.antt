@@ -1,12 +1,10 @@
 -- What a descriptor's bytes say, and the three ways of reading one.
 use mathlib.Core.Path.{◌≡◌, refl, sym, ap, ◌∙◌}
-use mathlib.Core.Logic.{◌⊎◌, inl, inr}
 use mathlib.Core.List.{List}
 use mathlib.Core.Bool.{Bool, true, false}
 use Prim.Native.Nat.{ℕ, ◌+◌, ◌*◌, ◌≤◌, ◌<◌}
 use native.Mathlib.Nat.{add-zero}
 use native.Mathlib.Omega.{arith}
-use denote.Enum.Declared.{tag_of}
 use lib.ListN.{length, get_or}
 use lib.Dec.{leb, lit<}
 use borrow.Author.Tests.{le-leb, lt-leb, leb-true}
@@ -23,7 +21,6 @@ use Rattle.ring.specs.declared.Found.TheVariants.{Outside, NotOwned, Owned}
 use Rattle.ring.specs.Slots.{place}
 use Rattle.ring.specs.Descriptor.{look, found_in, described, count_of, by◌outside:◌not_owned:◌owned:◌}
 use Rattle.ring.specs.Places.{descriptor}
-use Rattle.ring.specs.contracts.Found.{the_type}
 
 -- one of a descriptor's bytes
 byte : (m : List ℕ) (at k : ℕ) → k < 8 → get_or (part m at 8) k 0 ≡ get_or m (at + k) 0
@@ -101,27 +98,23 @@ look_inside m r i f d e h = found_inside (length m) r i m d (look_finds (length 
 
 -- what to do, where it is known which was found
 module _ {A : Type 0} (a b : A) where
-  pub by_outside : (f : Found) → tag_of the_type f ≡ 0 → by f outside: a not_owned: b owned: (λ d. b) ≡ a
+  pub by_outside : (f : Found) → f ≡ Outside → by f outside: a not_owned: b owned: (λ d. b) ≡ a
   unfolding by◌outside:◌not_owned:◌owned:◌
-  by_outside Outside h = refl
-  by_outside NotOwned h = absurd (omega arith)
-  by_outside (Owned d) h = absurd (omega arith)
+  by_outside f h = rw h
 
-  pub by_other : (f : Found) → (tag_of the_type f ≡ 1) ⊎ (tag_of the_type f ≡ 2)
+  pub by_other : (f : Found) → (f ≡ Outside → ⊥)
       → by f outside: a not_owned: b owned: (λ d. b) ≡ b
   unfolding by◌outside:◌not_owned:◌owned:◌
-  by_other Outside (inl h) = absurd (omega arith)
-  by_other Outside (inr h) = absurd (omega arith)
+  by_other Outside h = absurd (h refl)
   by_other NotOwned h = refl
   by_other (Owned d) h = refl
 
-  pub by_unowned : (g : Descriptor → A) (f : Found) → (tag_of the_type f ≡ 0) ⊎ (tag_of the_type f ≡ 1)
+  pub by_unowned : (g : Descriptor → A) (f : Found) → ((d : Descriptor) → f ≡ Owned d → ⊥)
       → by f outside: a not_owned: b owned: g ≡ by f outside: a not_owned: b owned: (λ d. b)
   unfolding by◌outside:◌not_owned:◌owned:◌
   by_unowned g Outside h = refl
   by_unowned g NotOwned h = refl
-  by_unowned g (Owned d) (inl h) = absurd (omega arith)
-  by_unowned g (Owned d) (inr h) = absurd (omega arith)
+  by_unowned g (Owned d) h = absurd (h d refl)
 
 -- a descriptor is what its first six bytes say
 pub same_descriptor : (r : Ring) (m m' : List ℕ) (i : Slot) → ((k : ℕ) → k < 6 → get_or m (place r i + k) 0 ≡ get_or m' (place r i + k) 0)
