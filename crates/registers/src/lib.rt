@@ -56,7 +56,7 @@ pub const RESET: u32 = 0x14;
 pub const SELECT: u16 = 128;
 
 // The bits of CSR0 but ERR and INTR, which follow from the others.
-#[derive(Drop)]
+#[derive(Clone, Copy)]
 pub struct Csr0 {
     pub babl: bool,
     pub cerr: bool,
@@ -75,7 +75,7 @@ pub struct Csr0 {
 }
 
 // The registers that are written, but for CSR0.
-#[derive(Drop)]
+#[derive(Clone, Copy)]
 pub struct Written {
     pub rap: u16,
     pub csr1: u16,
