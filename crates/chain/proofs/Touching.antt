@@ -5,10 +5,10 @@ use native.Mathlib.Nat.{eq-or-lt_of_le}
 use native.Mathlib.Numerals.{add-one}
 use native.Mathlib.Omega.{arith}
 use mathlib.Core.Path.{◌≡◌, refl, sym, ap, subst, ◌∙◌}
-use mathlib.Core.Logic.{◌⊎◌, inl, inr, ⊎_elim}
+use mathlib.Core.Logic.{◌⊎◌, inl, ⊎_elim}
 use mathlib.Core.List.{List}
-use lib.ListN.{length, get_or}
-use Rattle.bus.specs.Bus.{Bus, done, run, Ended}
+use lib.ListN.{get_or}
+use Rattle.bus.specs.Bus.{Bus, run, Ended}
 use Rattle.bus.specs.Within.{Within}
 use Rattle.bus.proofs.Within.{so_if, within_done, within_store, within_then}
 use Rattle.ring.specs.declared.Slot.{Slot}
@@ -30,7 +30,7 @@ use Rattle.chain.specs.declared.Closed.{Closed}
 use Rattle.chain.specs.Start.{pass}
 use Rattle.chain.specs.Chain.{further, grow, closed, link, links, read_chain}
 use Rattle.chain.specs.Inner.Laid.{later}
-use Rattle.chain.proofs.Chains.{grown, linkeds, kept, run_chain}
+use Rattle.chain.proofs.Chains.{grown, kept, run_chain}
 use Rattle.chain.proofs.Reaching.{later_last}
 
 -- which addresses a turn may load on the memory of a moment: descriptors, and buffers that the card owns

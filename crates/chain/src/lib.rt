@@ -160,7 +160,7 @@ fn links(memory: &[u8], ring: Ring, k: u32, chain: Chain) -> Chain
 // The chain from its first slot, whose descriptor was read.
 pub fn read_chain(memory: &[u8], ring: Ring, slot: Slot, d: Descriptor) -> Closed
     requires counted { Counted d }
-    requires ring_nonzero { 0 < slots ring }
+    requires some_slots { 0 < slots ring }
     ensures { run (read_chain (length memory.now) ring slot d) memory.now ≡ record { answer = result; memory = memory.now } }
 {
     let start = Reach {
