@@ -4,6 +4,9 @@
 ghost use Rattle.std.specs.Prelude.{◌≡◌};
 ghost use Rattle.tally.specs.Counting.{nothing, one_more, alike};
 
+use std::io;
+use std::io::Write;
+
 // How many things were compared, and how many of them came out wrong.
 #[derive(Clone, Copy)]
 pub struct Tally {
@@ -34,13 +37,11 @@ pub fn with(t: Tally, right: bool) -> Tally
 }
 
 // Prints the name of what was compared and the tally. What is printed is outside the logic; a program's file `stdout` has it.
-pub fn tell(name: &[u8], t: Tally) {
-    io::write_all(1, name);
-    io::write_all(1, b" ");
-    io::print_decimal(1, t.run);
-    io::write_all(1, b" wrong ");
-    io::print_decimal(1, t.wrong);
-    io::write_all(1, b"\n");
+pub fn tell(rt: &impl Print, name: &[u8], t: Tally) -> io::Result<()> {
+    io::writer(rt).write_all(name)?;
+    let run = t.run;
+    let wrong = t.wrong;
+    println!(rt; " {run} wrong {wrong}")
 }
 
 // Whether two slices have the same bytes.
