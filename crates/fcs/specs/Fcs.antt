@@ -1,6 +1,6 @@
 -- The frame check sequence of IEEE 802.3, bit by bit: what every contract of this crate says.
 -- A list of bytes is a list of numbers below 256; the definitions do not ask for it.
-use Rattle.std.specs.Prelude.{ℕ, zero, suc, ◌+◌, ◌-◌, ◌*◌, ◌/◌, ◌%◌, Bool, true, false, List, [], ◌∷◌, length, take, drop, leb, eqb}
+use Rattle.std.specs.Prelude.{ℕ, zero, suc, ◌-◌, ◌/◌, ◌%◌, Bool, true, false, List, [], ◌∷◌, length, take, drop, leb, eqb}
 use Rattle.std.specs.Int.Bits.{bit_xor}
 use Rattle.bus.specs.Words.{little}
 

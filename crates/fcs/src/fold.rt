@@ -10,7 +10,7 @@ use crate::table::shifted;
 use crate::words::{double_at, over_words};
 
 // Words that wait to be put on the next forty bytes.
-#[derive(Drop)]
+#[derive(Clone, Copy)]
 struct Waiting {
     a: u64,
     b: u64,
@@ -20,6 +20,7 @@ struct Waiting {
 }
 
 // One word further: it goes onto the words that follow, where 145 is two words and 17 bits, 183 two and 55, 211 three and 19, 300 four and 44.
+#[tactic(auto, using(crate::proofs::Places::after_folded))]
 fn fold(p: Waiting, bytes: &[u8], at: usize) -> Waiting
     requires { at + 48 ≤ length bytes.now }
     ensures { ahead result (drop (at + 8) bytes.now) ≡ ahead p (drop at bytes.now) }
@@ -49,6 +50,7 @@ fn fold_five(p: Waiting, bytes: &[u8], at: usize) -> Waiting
 }
 
 // The waiting word a with the eight bytes from a place on put on it, shifted out: what it leaves is for the next waiting word.
+#[tactic(auto, using(crate::proofs::Shifts::shifts_halves, crate::proofs::Afters::after_shifts))]
 fn absorb(table: &[u32; 128], bytes: &[u8], at: usize, a: u64) -> u32
     requires steps { Steps table.now }
     requires at_in_bounds { at + 8 ≤ length bytes.now }
@@ -93,6 +95,7 @@ fn over_ones(table: &[u32; 128], bytes: &[u8], from: usize, p: Waiting) -> u32
 }
 
 // The register over forty bytes or more, five words at a time while they can be folded.
+#[tactic(auto, using(crate::proofs::Afters::after_start))]
 pub(crate) fn over_fives(table: &[u32; 128], bytes: &[u8]) -> u32
     requires steps { Steps table.now }
     requires in_bounds { 40 ≤ length bytes.now }

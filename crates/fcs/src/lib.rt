@@ -9,6 +9,7 @@ mod table;
 mod words;
 
 // The register over some bytes; under 48 there is no word to fold.
+#[tactic(auto, unfolding(crate::specs::Fcs::register_of))]
 pub fn register_of(bytes: &[u8]) -> u32
     ensures { result ≡ register_of bytes.now }
 {
@@ -21,6 +22,7 @@ pub fn register_of(bytes: &[u8]) -> u32
 }
 
 // The FCS of some bytes.
+#[tactic(auto, unfolding(crate::specs::Fcs::fcs_of))]
 pub fn fcs_of(bytes: &[u8]) -> u32
     ensures { result ≡ fcs_of bytes.now }
 {
@@ -28,6 +30,7 @@ pub fn fcs_of(bytes: &[u8]) -> u32
 }
 
 // Whether a frame ends in the FCS of what stands before.
+#[tactic(auto, using(crate::proofs::Frames::too_short, crate::proofs::Frames::long_enough))]
 pub fn right_fcs(frame: &[u8]) -> bool
     ensures { result ≡ right_fcs frame.now }
 {
@@ -39,6 +42,7 @@ pub fn right_fcs(frame: &[u8]) -> bool
 }
 
 // The hash of an address.
+#[tactic(auto, unfolding(crate::specs::Fcs::hash_of))]
 pub fn hash_of(address: &[u8]) -> u8
     ensures { (result ≡ hash_of address.now) × (result < 64) }
 {

@@ -31,6 +31,7 @@ pub(crate) fn nibbles() -> [u32; 128]
 }
 
 // The register x after four shifts for each of count rows of the table.
+#[tactic(auto, using(crate::proofs::Entries::row_down, crate::proofs::Entries::no_row))]
 pub(crate) fn shifted(table: &[u32; 128], count: usize, x: u32) -> u32
     requires steps { Steps table.now }
     requires count_bound { count ≤ 8 }

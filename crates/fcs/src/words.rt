@@ -7,6 +7,7 @@ ghost use Rattle.fcs.specs.Steps.{Steps};
 use crate::table::shifted;
 
 // The number that one byte stands for.
+#[tactic(auto, using(crate::proofs::Registers::one_byte))]
 fn byte_at(bytes: &[u8], at: usize) -> u32
     requires { at + 1 ≤ length bytes.now }
     ensures { (result ≡ little (take 1 (drop at bytes.now))) × (result < 0x100) }
@@ -39,6 +40,7 @@ pub(crate) fn double_at(bytes: &[u8], at: usize) -> u64
 }
 
 // The register c after the bytes from a place on, one by one.
+#[tactic(auto, using(crate::proofs::Registers::some_bytes, crate::proofs::Registers::no_byte))]
 fn over_bytes(table: &[u32; 128], bytes: &[u8], from: usize, c: u32) -> u32
     requires steps { Steps table.now }
     requires from_in_bounds { from ≤ length bytes.now }
@@ -54,6 +56,7 @@ fn over_bytes(table: &[u32; 128], bytes: &[u8], from: usize, c: u32) -> u32
 }
 
 // The register c after the bytes from a place on, four at a time, and what is left one by one.
+#[tactic(auto, using(crate::proofs::Registers::some_bytes))]
 pub(crate) fn over_words(table: &[u32; 128], bytes: &[u8], from: usize, c: u32) -> u32
     requires steps { Steps table.now }
     requires from_in_bounds { from ≤ length bytes.now }

@@ -6,8 +6,7 @@ use native.Mathlib.Nat.{zero-add}
 use lib.ListN.{get_or}
 use Rattle.fcs.specs.Fcs.{fallen, shift, shifts}
 use Rattle.fcs.proofs.Entries.{listed, listed_at}
-use Rattle.fcs.proofs.table.nibbles.Statement.{statement}
-use Rattle.fcs.proofs.table.nibbles.Tie as tie
+use Rattle.fcs.proofs.table.nibbles.Goals as goal
 
 -- the entry at a place
 entry : ℕ → ℕ
@@ -17,9 +16,6 @@ entry_at : (i : ℕ) → i < 128 → get_or (listed entry 0 128) i 0 ≡ shifts 
 unfolding entry
 entry_at i h = rw (listed_at entry 0 128 i h, zero-add)
 
-returns : tie.Need-returns
+pub returns : goal.returns
 unfolding listed entry fallen shift shifts
 returns c = record { at = entry_at }
-
-pub nibbles-spec : {M : Type 1} → statement M
-nibbles-spec = tie.close (tie.spec returns)
