@@ -43,8 +43,8 @@ pub fn put_word(to: &mut [u8], at: usize, w: u16)
 
 // `count` bytes of a slice, from `start` on, go to a place of another.
 pub fn copy_bytes(from: &[u8], start: usize, count: usize, to: &mut [u8], at: usize)
-    requires count_in_bounds { start + count ≤ length from.now }
-    requires count_in_bounds_2 { at + count ≤ length to.old }
+    requires from_inside { start + count ≤ length from.now }
+    requires to_inside { at + count ≤ length to.old }
     ensures { to.new ≡ overwritten to.old at (part from.now start count) }
 {
     let mut i = 0;

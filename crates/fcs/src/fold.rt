@@ -53,7 +53,7 @@ fn fold_five(p: Waiting, bytes: &[u8], at: usize) -> Waiting
 #[tactic(auto, using(crate::proofs::Shifts::shifts_halves, crate::proofs::Afters::after_shifts))]
 fn absorb(table: &[u32; 128], bytes: &[u8], at: usize, a: u64) -> u32
     requires steps { Steps table.now }
-    requires at_in_bounds { at + 8 ≤ length bytes.now }
+    requires inside { at + 8 ≤ length bytes.now }
     ensures { (b : ℕ) (ws : List ℕ) → b < 2 ^ 64 → after (bit_xor b result ∷ ws) (drop (at + 8) bytes.now) ≡ after (a ∷ b ∷ ws) (drop at bytes.now) }
 {
     let w = a ^ double_at(bytes, at);
@@ -65,7 +65,7 @@ fn absorb(table: &[u32; 128], bytes: &[u8], at: usize, a: u64) -> u32
 // The register over the bytes from a place on, forty or more, with the waiting words put on them.
 fn finish(table: &[u32; 128], bytes: &[u8], at: usize, p: Waiting) -> u32
     requires steps { Steps table.now }
-    requires at_in_bounds { at + 40 ≤ length bytes.now }
+    requires inside { at + 40 ≤ length bytes.now }
     ensures { result ≡ ahead p (drop at bytes.now) }
 {
     let i = at + 8;
@@ -82,7 +82,7 @@ fn finish(table: &[u32; 128], bytes: &[u8], at: usize, p: Waiting) -> u32
 // The same, a word at a time while one can be folded.
 fn over_ones(table: &[u32; 128], bytes: &[u8], from: usize, p: Waiting) -> u32
     requires steps { Steps table.now }
-    requires from_in_bounds { from + 40 ≤ length bytes.now }
+    requires inside { from + 40 ≤ length bytes.now }
     ensures { result ≡ ahead p (drop from bytes.now) }
 {
     let mut q = p;
@@ -98,7 +98,7 @@ fn over_ones(table: &[u32; 128], bytes: &[u8], from: usize, p: Waiting) -> u32
 #[tactic(auto, using(crate::proofs::Afters::after_start))]
 pub(crate) fn over_fives(table: &[u32; 128], bytes: &[u8]) -> u32
     requires steps { Steps table.now }
-    requires in_bounds { 40 ≤ length bytes.now }
+    requires inside { 40 ≤ length bytes.now }
     ensures { result ≡ register_of bytes.now }
 {
     let mut p = Waiting {

@@ -34,7 +34,7 @@ pub(crate) fn nibbles() -> [u32; 128]
 #[tactic(auto, using(crate::proofs::Entries::row_down, crate::proofs::Entries::no_row))]
 pub(crate) fn shifted(table: &[u32; 128], count: usize, x: u32) -> u32
     requires steps { Steps table.now }
-    requires count_bound { count ≤ 8 }
+    requires few { count ≤ 8 }
     ensures { result ≡ shifts (count * 4) x }
 {
     let mut done = 0;

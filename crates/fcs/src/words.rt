@@ -43,7 +43,7 @@ pub(crate) fn double_at(bytes: &[u8], at: usize) -> u64
 #[tactic(auto, using(crate::proofs::Registers::some_bytes, crate::proofs::Registers::no_byte))]
 fn over_bytes(table: &[u32; 128], bytes: &[u8], from: usize, c: u32) -> u32
     requires steps { Steps table.now }
-    requires from_in_bounds { from ≤ length bytes.now }
+    requires inside { from ≤ length bytes.now }
     ensures { result ≡ register c (drop from bytes.now) }
 {
     let mut r = c;
@@ -59,7 +59,7 @@ fn over_bytes(table: &[u32; 128], bytes: &[u8], from: usize, c: u32) -> u32
 #[tactic(auto, using(crate::proofs::Registers::some_bytes))]
 pub(crate) fn over_words(table: &[u32; 128], bytes: &[u8], from: usize, c: u32) -> u32
     requires steps { Steps table.now }
-    requires from_in_bounds { from ≤ length bytes.now }
+    requires inside { from ≤ length bytes.now }
     ensures { result ≡ register c (drop from bytes.now) }
 {
     let mut r = c;

@@ -13,7 +13,7 @@ use Rattle.bus.proofs.Bytes.{length_part}
 use Rattle.ring.specs.declared.Slot.{Slot}
 use Rattle.ring.specs.declared.Ring.{Ring}
 use Rattle.ring.specs.declared.Descriptor.{Descriptor}
-use Rattle.ring.specs.Slots.{slots, next, place}
+use Rattle.ring.specs.Slots.{next, place}
 use Rattle.ring.specs.Descriptor.{described}
 use Rattle.ring.specs.Places.{descriptor}
 use Rattle.chain.specs.Inner.Laid.{later, buffer, buffers, Inside, Laid}

@@ -1,15 +1,15 @@
 -- A chain's slots that are given back.
 use mathlib.Core.Path.{◌≡◌, refl, sym, ap, ◌∙◌}
 use mathlib.Core.List.{List}
-use Prim.Native.Nat.{ℕ, zero, suc, ◌+◌, ◌-◌, ◌*◌, ◌/◌, ◌%◌, ◌≤◌, ◌<◌}
+use Prim.Native.Nat.{ℕ, zero, suc, ◌+◌, ◌-◌, ◌%◌, ◌≤◌, ◌<◌}
 use native.Mathlib.Omega.{arith}
 use lib.ListN.{length, get_or, set}
 use Rattle.bus.specs.Words.{bytes_of, overwritten}
-use Rattle.bus.specs.Bus.{run, Ended, done, store, bytes, ◌>>=◌, ◌>>◌}
+use Rattle.bus.specs.Bus.{run, Ended, done, store, bytes, ◌>>◌}
 use Rattle.bus.proofs.Run.{run_done, run_bytes, after}
 use Rattle.ring.specs.declared.Slot.{Slot}
 use Rattle.ring.specs.declared.Ring.{Ring}
-use Rattle.ring.specs.Slots.{slots, next, place}
+use Rattle.ring.specs.Slots.{next, place}
 use Rattle.ring.specs.Status.{without_own}
 use Rattle.transmit.specs.Report.{stays}
 use Rattle.chain.specs.Inner.Laid.{later, Given, Placed}

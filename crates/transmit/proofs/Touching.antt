@@ -1,26 +1,24 @@
 -- What a turn touches: it loads the ring's descriptors and buffers that the card owns, takes OWN from descriptors and writes TMD3, and
 -- ends at a slot of the ring.
-use Prim.Native.Nat.{ℕ, zero, suc, ◌+◌, ◌-◌, ◌*◌, ◌/◌, ◌%◌, ◌≤◌, ◌<◌}
+use Prim.Native.Nat.{ℕ, zero, suc, ◌+◌, ◌-◌, ◌%◌, ◌≤◌, ◌<◌}
 use native.Mathlib.Omega.{arith}
 use mathlib.Core.Path.{◌≡◌, refl, sym, ap, subst, ◌∙◌}
-use mathlib.Core.Bool.{Bool, true, false, not, ◌&&◌}
-use mathlib.Core.Logic.{◌⊎◌, inl, inr}
-use mathlib.Core.List.{List, [], ◌++◌}
-use lib.ListN.{length, get_or}
+use mathlib.Core.Bool.{Bool, true, false, ◌&&◌}
+use mathlib.Core.Logic.{inl, inr}
+use mathlib.Core.List.{List}
+use lib.ListN.{get_or}
 use lib.Dec.{eqb, leb, lit<}
 use Rattle.bus.specs.Bits.{weigh}
-use Rattle.bus.specs.Words.{bytes_of, part}
-use Rattle.bus.specs.Bus.{Bus, done, store, bytes, reads, run, Ended, Handed, empty_handed, ◌>>◌}
+use Rattle.bus.specs.Words.{bytes_of}
+use Rattle.bus.specs.Bus.{Bus, done, bytes, run, Ended, Handed, empty_handed, ◌>>◌}
 use Rattle.bus.specs.Within.{Within}
 use Rattle.bus.proofs.Within.{so_if, within_done, within_load, within_store, within_then, within_next, within_read, within_bytes}
 use Rattle.ring.specs.declared.Slot.{Slot}
 use Rattle.ring.specs.declared.Ring.{Ring}
-use Rattle.ring.specs.declared.Descriptor.{Descriptor}
 use Rattle.ring.specs.declared.Found.TheVariants.{Owned}
 use Rattle.ring.specs.Slots.{slots, next, place}
 use Rattle.ring.specs.Status.{without_own}
-use Rattle.ring.specs.Descriptor.{described}
-use Rattle.ring.specs.Places.{descriptor, InRing, InBuffer}
+use Rattle.ring.specs.Places.{descriptor}
 use Rattle.ring.proofs.Finding.{found}
 use Rattle.ring.proofs.Loaded.{next_within}
 use Rattle.ring.proofs.Looking.{in_ring}
@@ -38,7 +36,7 @@ use Rattle.chain.proofs.Chains.{run_chain}
 use Rattle.chain.proofs.Touching.{Reads, Gives, status, tmd3, StartIn, ClosedIn, OwnedTo, pass_within, chain_within, chain_owned}
 use Rattle.transmit.specs.declared.Turned.{Turned}
 use Rattle.transmit.specs.declared.Report.{Report}
-use Rattle.transmit.specs.Report.{stays, hands_out, reported, reported_tmd3}
+use Rattle.transmit.specs.Report.{stays, hands_out, reported}
 use Rattle.transmit.specs.Turn.{without, handing, finish, gather, release, give_back, send, ending, go_on, turn}
 
 -- what a status is at most, without OWN

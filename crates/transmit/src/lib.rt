@@ -126,7 +126,7 @@ fn reported_tmd3(report: Report) -> u16
 // A slot's buffer is copied into the slice: the place after it there.
 fn copy_buffer(memory: &[u8], ring: Ring, slot: Slot, out: &mut [u8], at: usize) -> usize
     requires inside { Inside memory.now ring slot }
-    requires slot_in_bounds { at + length (buffer memory.now ring slot) ≤ length out.old }
+    requires room { at + length (buffer memory.now ring slot) ≤ length out.old }
     ensures { (result ≡ at + length (buffer memory.now ring slot)) × (out.new ≡ overwritten out.old at (buffer memory.now ring slot)) }
 {
     let d = ring::described(memory, ring.place(slot));
@@ -139,7 +139,7 @@ fn copy_buffer(memory: &[u8], ring: Ring, slot: Slot, out: &mut [u8], at: usize)
 // The buffers of k slots are copied into the slice, one after the other: the number of their bytes.
 fn gather(memory: &[u8], ring: Ring, k: u32, slot: Slot, out: &mut [u8]) -> usize
     requires laid { Laid memory.now ring k slot }
-    requires slot_in_bounds { length (buffers memory.now ring k slot) ≤ length out.old }
+    requires room { length (buffers memory.now ring k slot) ≤ length out.old }
     ensures { (result ≡ length (buffers memory.now ring k slot)) × (out.new ≡ overwritten out.old 0 (buffers memory.now ring k slot)) }
 {
     let r = ring;
@@ -167,7 +167,7 @@ fn append_fcs(out: &mut [u8], n: usize)
 // The frame of k slots fills the slice from its start: its length.
 fn hand_out(memory: &[u8], ring: Ring, k: u32, slot: Slot, append: bool, out: &mut [u8]) -> u16
     requires sendable { Sendable memory.now ring k slot }
-    requires in_bounds { 4100 ≤ length out.old }
+    requires room { 4100 ≤ length out.old }
     ensures { (result ≡ length (with_fcs append (buffers memory.now ring k slot))) × (out.new ≡ overwritten out.old 0 (with_fcs append (buffers memory.now ring k slot))) }
 {
     let n = gather(memory, ring, k, slot, out);
@@ -197,8 +197,8 @@ fn release(memory: &mut [u8], ring: Ring, k: u32, slot: Slot) -> Slot
 
 // A chain's last slot gets TMD3 and what its status says, and loses OWN.
 fn finish(memory: &mut [u8], ring: Ring, says: u8, tmd3: u16, slot: Slot)
-    requires slot_in_bounds { place ring slot + 8 ≤ length memory.old }
-    requires says_bound { says < 128 }
+    requires slot_inside { place ring slot + 8 ≤ length memory.old }
+    requires says_small { says < 128 }
     ensures { run (finish ring says tmd3 slot) memory.old ≡ record { answer = tt; memory = memory.new } }
 {
     let at = ring.place(slot);
@@ -210,7 +210,7 @@ fn finish(memory: &mut [u8], ring: Ring, says: u8, tmd3: u16, slot: Slot)
 // A chain of k slots is given back.
 fn give_back(memory: &mut [u8], ring: Ring, says: u8, tmd3: u16, k: u32, slot: Slot)
     requires given { Given memory.old ring k slot }
-    requires says_bound { says < 128 }
+    requires says_small { says < 128 }
     ensures { run (give_back ring says tmd3 k slot) memory.old ≡ record { answer = tt; memory = memory.new } }
 {
     let last = release(memory, ring, k - 1, slot);
@@ -220,7 +220,7 @@ fn give_back(memory: &mut [u8], ring: Ring, says: u8, tmd3: u16, k: u32, slot: S
 // A frame whose chain is whole, with a wire report.
 fn send(memory: &mut [u8], ring: Ring, report: Report, frame: Outgoing, out: &mut [u8]) -> Turned
     requires sendable { Sendable memory.old ring frame.reach.slots frame.first }
-    requires in_bounds { 4100 ≤ length out.old }
+    requires room { 4100 ≤ length out.old }
     ensures { leaves (run (send ring report frame.append frame.first frame.reach) memory.old) out.old ≡ record { answer = result; memory = memory.new; out = out.new } }
 {
     let reach = frame.reach;
@@ -254,7 +254,7 @@ fn ending(
     out: &mut [u8],
 ) -> Turned
     requires ready { Ready memory.old ring frame.reach.slots frame.first close }
-    requires in_bounds { 4100 ≤ length out.old }
+    requires room { 4100 ≤ length out.old }
     ensures { leaves (run (ending ring report frame.append frame.first close frame.reach) memory.old) out.old ≡ record { answer = result; memory = memory.new; out = out.new } }
 {
     let reach = frame.reach;
