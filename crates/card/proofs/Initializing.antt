@@ -5,7 +5,7 @@ use mathlib.Core.List.{List}
 use Prim.Native.Nat.{ℕ, ◌+◌, ◌/◌, ◌%◌, ◌≤◌, ◌<◌}
 use lib.ListN.{length, get_or}
 use borrow.Author.Tests.{le-leb, lt-leb}
-use Rattle.bus.specs.Words.{bytes_of, words_at}
+use Rattle.bus.specs.Words.{words_at}
 use Rattle.bus.specs.Bus.{run, done, words}
 use Rattle.bus.proofs.Run.{run_gives, way_true, way_false, way_eq, way_ne, run_words, after}
 use Rattle.ring.specs.declared.Ring.{Ring}

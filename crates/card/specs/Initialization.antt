@@ -4,7 +4,6 @@ use Rattle.bus.specs.Choice.{if◌then◌else◌}
 use Rattle.bus.specs.Bits.{bit}
 use Rattle.bus.specs.Bus.{Bus, done, words, ◌>>=◌}
 use Rattle.ring.specs.Loading.{from_words}
-use Rattle.registers.specs.declared.Csr0.{Csr0}
 use Rattle.registers.specs.Bits.{MERR, IDON, RXON, TXON, STOP, INIT}
 use Rattle.registers.specs.Csr0.{stopped, changed}
 use Rattle.registers.specs.Writing.{cleared, finished}
