@@ -9,12 +9,12 @@ use lib.ListN.{length}
 use lib.Dec.{leb}
 use borrow.Author.Tests.{ne_eqb}
 use Rattle.bus.specs.Bits.{bit, weigh}
-use Rattle.bus.specs.Bus.{Bus, done, Handed, empty_handed}
+use Rattle.bus.specs.Bus.{Bus, Handed, empty_handed}
 use Rattle.bus.specs.Within.{Within}
 use Rattle.bus.proofs.Within.{so_if, so_where, within_done, within_then}
 use Rattle.ring.specs.declared.Slot.{Slot}
 use Rattle.ring.specs.declared.Ring.{Ring}
-use Rattle.ring.specs.Slots.{slots, moved}
+use Rattle.ring.specs.Slots.{slots}
 use Rattle.ring.specs.Loading.{loaded}
 use Rattle.ring.proofs.Loaded.{slot_within, moved_loaded}
 use Rattle.registers.specs.Bits.{BABL, CERR, TINT, STOP, STRT}

@@ -4,7 +4,7 @@ use mathlib.Core.Path.{◌≡◌}
 use mathlib.Core.Bool.{true}
 use mathlib.Core.List.{List, [], ◌∷◌}
 use lib.ListN.{length}
-use Rattle.bus.specs.Bus.{run, Handed, empty_handed}
+use Rattle.bus.specs.Bus.{Handed, empty_handed}
 use Rattle.bus.specs.Within.{Within}
 use Rattle.bus.proofs.Within.{keeps_ends, within_done, within_then}
 use Rattle.bus.proofs.Secret.{within_ends}
@@ -17,7 +17,7 @@ use Rattle.card.specs.Sound.{sound}
 use Rattle.statements.specs.Soundly.{Bytes, Soundly}
 use Rattle.statements.specs.Runs.{Call, reset, read, write, arrive, turn, act, step, Lent, after}
 use Rattle.statements.proofs.States.{fresh_sound}
-use Rattle.statements.proofs.Writing.{InBlock, Nothing}
+use Rattle.statements.proofs.Writing.{InBlock}
 use Rattle.statements.proofs.Acts.{resetting_sound, reading_sound, writing_within, arriving_within, turning_within}
 
 -- what a call loads and stores, by the act
@@ -60,7 +60,7 @@ step_sound call c m b e = within_ends _ _ (Said c m) (act call c (length m)) m (
 after_sound : (c : Card) (ls : List Lent) → sound c ≡ true → sound (after c ls) ≡ true
 unfolding after
 after_sound c [] e = e
-after_sound c (l ∷ ls) e = after_sound _ ls (step_sound l.call c l.memory l.bytes e).state
+after_sound c (l ∷ ls) e = after_sound (step l.call c l.memory).answer.answer.card ls (step_sound l.call c l.memory l.bytes e).state
 
 pub state_sound : (ls : List Lent) → sound (after fresh ls) ≡ true
 state_sound ls = after_sound fresh ls fresh_sound

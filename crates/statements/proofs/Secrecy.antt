@@ -15,7 +15,7 @@ use Rattle.card.specs.State.{fresh}
 use Rattle.statements.specs.Runs.{Call, reset, read, write, arrive, turn, act, step}
 use Rattle.statements.specs.Premise.{Premise, block, receiving, transmitting, sending}
 use Rattle.statements.specs.Twice.{Twice, Agreed, Same}
-use Rattle.statements.proofs.Running.{loads, stores, Said, act_within}
+use Rattle.statements.proofs.Running.{Said, act_within}
 
 -- one call: what it may load is in the premise
 one_call : (call : Call) (c : Card) (n : ℕ) (m₁ m₂ : List ℕ) → Agree (Premise c m₁) m₁ m₂ → Secret (act call c n) m₁ m₂
@@ -54,7 +54,7 @@ same_runs c d (t ∷ ts) e g =
     let s : ((step t.call c t.one).answer ≡ (step t.call d t.two).answer) × Apart t.one t.two (step t.call c t.one).memory (step t.call d t.two).memory =
     subst (λ (x : Card). ((step t.call c t.one).answer ≡ (step t.call x t.two).answer) × Apart t.one t.two (step t.call c t.one).memory (step t.call x t.two).memory) e
     (one_step t.call c t.one t.two g.0) in
-    (s.0, s.1, same_runs _ _ ts (ap (λ (x : Handed Reply). x.answer.card) s.0) g.1)
+    (s.0, s.1, same_runs (step t.call c t.one).answer.answer.card (step t.call d t.two).answer.answer.card ts (ap (λ (x : Handed Reply). x.answer.card) s.0) g.1)
 
 -- demand 3: two runs from reset
 pub demand_3 : (ts : List Twice) → Agreed fresh ts → Same fresh fresh ts

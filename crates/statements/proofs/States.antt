@@ -1,12 +1,10 @@
 -- A sound state taken apart and put together.
-use Prim.Native.Nat.{ℕ, ◌<◌}
+use Prim.Native.Nat.{ℕ}
 use mathlib.Core.Path.{◌≡◌, refl, sym, subst, ◌∙◌}
 use mathlib.Core.Bool.{Bool, true, false, not, ◌&&◌, and-eq-true_iff, false≢true}
-use lib.ListN.{replicate}
 use Rattle.bus.specs.Choice.{if◌then◌else◌}
 use Rattle.bus.specs.Words.{bytes_of}
 use Rattle.ring.specs.declared.Ring.{Ring}
-use Rattle.ring.specs.Slots.{slots}
 use Rattle.ring.specs.Loading.{loaded}
 use Rattle.registers.specs.declared.Csr0.{Csr0}
 use Rattle.registers.specs.declared.Written.{Written}

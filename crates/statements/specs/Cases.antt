@@ -1,5 +1,5 @@
 -- "Twelve cases for the proof table": each with what the definitions give and what document 01 says.
-use Rattle.std.specs.Prelude.{ℕ, true, false, List, [], ◌∷◌, ◌++◌, length, get_or, replicate}
+use Rattle.std.specs.Prelude.{ℕ, false, List, [], ◌∷◌, ◌++◌, length, get_or, replicate}
 use Rattle.fcs.specs.Fcs.{fcs_of}
 use Rattle.bus.specs.Bits.{weigh}
 use Rattle.bus.specs.Words.{bytes_of}
