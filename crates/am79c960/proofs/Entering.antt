@@ -12,7 +12,6 @@ use Rattle.bus.proofs.Choices.{if_eq, if_ne, if_true, if_false}
 use Rattle.transmit.specs.declared.Report.{Report}
 use Rattle.card.specs.declared.Card.{Card}
 use Rattle.card.specs.declared.Reply.{Reply}
-use Rattle.card.specs.State.{fresh}
 use Rattle.card.specs.Acts.{resetting, reading, writing}
 use Rattle.card.specs.Arrival.{arriving}
 use Rattle.card.specs.Turning.{turning}

@@ -34,7 +34,7 @@ fn packed(r: Reply) -> u64
 // A reply is handed back, and its state stored where nothing is refused.
 fn given(block: &mut [u8], r: Reply) -> u64
     requires { length block.old ≡ 512 }
-    ensures* { λ x. ⌜ given block.old r ≡ record { result = x; block = block.new } ⌝ }
+    ensures { given block.old r ≡ record { result = result; block = block.new } }
 {
     let answer = r.answer;
     let card = r.card;
@@ -49,7 +49,7 @@ fn given(block: &mut [u8], r: Reply) -> u64
 // The act "reset".
 #[unsafe(no_mangle)]
 pub extern "C" fn am79c960_entry_reset(block: &mut [u8]) -> u64
-    ensures* { λ r. ⌜ reset_entry block.old ≡ record { result = r; block = block.new } ⌝ }
+    ensures { reset_entry block.old ≡ record { result = result; block = block.new } }
 {
     if block.len() == block::BYTES {
         return given(block, Card::fresh().reset());
@@ -60,7 +60,7 @@ pub extern "C" fn am79c960_entry_reset(block: &mut [u8]) -> u64
 // The act "register read".
 #[unsafe(no_mangle)]
 pub extern "C" fn am79c960_entry_read(block: &mut [u8], offset: u32) -> u64
-    ensures* { λ r. ⌜ read_entry block.old offset ≡ record { result = r; block = block.new } ⌝ }
+    ensures { read_entry block.old offset ≡ record { result = result; block = block.new } }
 {
     if block::is_open(block) {
         let card = block::state_in(block);
@@ -77,7 +77,7 @@ pub extern "C" fn am79c960_entry_write(
     offset: u32,
     value: u32,
 ) -> u64
-    ensures* { λ r. ⌜ run (write_entry block.old (length memory.now) offset value) memory.now ≡ record { answer = record { result = r; block = block.new }; memory = memory.now } ⌝ }
+    ensures { run (write_entry block.old (length memory.now) offset value) memory.now ≡ record { answer = record { result = result; block = block.new }; memory = memory.now } }
 {
     if block::is_open(block) {
         let card = block::state_in(block);
@@ -94,7 +94,7 @@ pub extern "C" fn am79c960_entry_arrive(
     frame: &[u8],
     extra: u32,
 ) -> u64
-    ensures* { λ r. ⌜ run (arrive_entry block.old (length memory.old) frame.now extra) memory.old ≡ record { answer = record { result = r; block = block.new }; memory = memory.new } ⌝ }
+    ensures { run (arrive_entry block.old (length memory.old) frame.now extra) memory.old ≡ record { answer = record { result = result; block = block.new }; memory = memory.new } }
 {
     if block::is_open(block) {
         let card = block::state_in(block);
@@ -109,16 +109,16 @@ pub extern "C" fn am79c960_entry_turn(
     block: &mut [u8],
     memory: &mut [u8],
     out: &mut [u8],
-    res: u32,
+    wire: u32,
     deferred: bool,
     noheartbeat: bool,
 ) -> u64
-    ensures* { λ r. ⌜ leaves (run (turn_entry block.old (length memory.old) (length out.old) (record { result = res; deferred = deferred; noheartbeat = noheartbeat })) memory.old) out.old ≡ record { answer = record { res = r; block = block.new }; memory = memory.new; out = out.new } ⌝ }
+    ensures { leaves (run (turn_entry block.old (length memory.old) (length out.old) (record { result = wire; deferred = deferred; noheartbeat = noheartbeat })) memory.old) out.old ≡ record { answer = record { result = result; block = block.new }; memory = memory.new; out = out.new } }
 {
     if block::is_open(block) {
         let card = block::state_in(block);
         let report = Report {
-            result: res,
+            result: wire,
             deferred,
             noheartbeat,
         };
