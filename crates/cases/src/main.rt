@@ -9,9 +9,11 @@ mod refusals;
 mod sending;
 mod table;
 
+use std::io;
+
 // Runs all cases and prints the tally.
-fn main() {
+fn main(rt: HostRuntime) -> io::Result<()> {
     let none = tally::none();
     let t = sending::run(receiving::run(edges::run(refusals::run(table::run(none)))));
-    tally::tell(b"cases", t);
+    tally::tell(&rt, b"cases", t)
 }

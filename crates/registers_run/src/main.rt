@@ -7,8 +7,10 @@ mod cards;
 mod offsets;
 mod table;
 
+use std::io;
+
 // Compares with STOP set and with STOP clear, and prints the tally.
-fn main() {
+fn main(rt: HostRuntime) -> io::Result<()> {
     let none = tally::none();
     let stopped = cards::stopped();
     let running = cards::running();
@@ -16,5 +18,5 @@ fn main() {
     let t = accesses::run(t, running);
     let t = offsets::run(t, stopped);
     let t = offsets::run(t, running);
-    tally::tell(b"registers", t);
+    tally::tell(&rt, b"registers", t)
 }

@@ -5,9 +5,11 @@ mod frames;
 mod hashes;
 mod texts;
 
+use std::io;
+
 // Runs all vectors and prints the tally.
-fn main() {
+fn main(rt: HostRuntime) -> io::Result<()> {
     let none = tally::none();
     let t = hashes::run(frames::run(texts::run(none)));
-    tally::tell(b"vectors", t);
+    tally::tell(&rt, b"vectors", t)
 }
