@@ -6,7 +6,7 @@ use Prim.Native.Nat.{ℕ, ◌+◌, ◌*◌, ◌%◌}
 use lib.ListN.{length}
 use Rattle.bus.specs.Bits.{weigh}
 use Rattle.bus.specs.Bus.{Bus, Ended, done, run, Handed, empty_handed, Left, leaves, ◌>>=◌}
-use Rattle.bus.specs.Choice.{if◌then◌else◌}
+use Rattle.std.specs.Prelude.{if◌then◌else◌}
 use Rattle.bus.proofs.Run.{after, run_gives, run_done, run_if, run_else, run_then, way_yes}
 use Rattle.bus.proofs.Choices.{if_eq, if_ne, if_true, if_false}
 use Rattle.transmit.specs.declared.Report.{Report}

@@ -1,6 +1,6 @@
 -- What the five entries hand back, on numbers, slices and the block.
 use Rattle.std.specs.Prelude.{ℕ, ◌+◌, ◌*◌, ◌%◌, List, length, eqb}
-use Rattle.bus.specs.Choice.{if◌then◌else◌}
+use Rattle.std.specs.Prelude.{if◌then◌else◌}
 use Rattle.bus.specs.Bits.{weigh}
 use Rattle.bus.specs.Bus.{Bus, done, Handed, empty_handed, ◌>>=◌}
 use Rattle.transmit.specs.declared.Report.{Report}

@@ -6,7 +6,6 @@ use native.Mathlib.Omega.{arith}
 use mathlib.Core.List.{List, [], ◌∷◌}
 use lib.Dec.{ltb}
 use borrow.Author.Tests.{lt-ltb, le-ltb, ltb-false}
-use Rattle.bus.specs.Choice.{if◌then◌else◌}
 use Rattle.bus.proofs.Choices.{if_true, if_false}
 use Rattle.answers.specs.Refusals.{Test, ◌refuses_if◌, first, read_number, write_number, arrive_number, turn_number}
 
@@ -33,12 +32,12 @@ pub ruleset tests = (first_refuses, first_passes, first_over, first_within, firs
 
 -- where no test refuses, each passes
 pub passed : (n : ℕ) (b : Bool) (ts : List Test) → first (suc n refuses_if b ∷ ts) ≡ 0 → b ≡ false
-unfolding first if◌then◌else◌
+unfolding first
 passed n true ts e = absurd (omega arith)
 passed n false ts e = refl
 
 rest : (n : ℕ) (b : Bool) (ts : List Test) → first (suc n refuses_if b ∷ ts) ≡ 0 → first ts ≡ 0
-unfolding first if◌then◌else◌
+unfolding first
 rest n true ts e = absurd (omega arith)
 rest n false ts e = e
 
@@ -62,7 +61,7 @@ slice_long s n out report e = ltb-false out 4100 (passed 3 _ _ (rest 0 _ _ (rest
 
 -- a call with a sound state is never refused with 9
 other : (n : ℕ) (b : Bool) (ts : List Test) → (n ≡ 9 → ⊥) → (first ts ≡ 9 → ⊥) → first (n refuses_if b ∷ ts) ≡ 9 → ⊥
-unfolding first if◌then◌else◌
+unfolding first
 other n true ts h l = h
 other n false ts h l = l
 
@@ -71,7 +70,7 @@ unfolding first
 none = omega arith
 
 passes : (ts : List Test) → (first ts ≡ 9 → ⊥) → first (9 refuses_if false ∷ ts) ≡ 9 → ⊥
-unfolding first if◌then◌else◌
+unfolding first
 passes ts l = l
 
 pub read_never_9 : (a b : Bool) → read_number true a b ≡ 9 → ⊥

@@ -1,6 +1,6 @@
 -- "Numbers for a refused call": the tests, in the table's order, "each only where its input exists".
 use Rattle.std.specs.Prelude.{ℕ, zero, suc, Bool, not, List, [], ◌∷◌, ltb}
-use Rattle.bus.specs.Choice.{if◌then◌else◌}
+use Rattle.std.specs.Prelude.{if◌then◌else◌}
 
 -- "memory above 16,777,216 bytes", "frame above 4,095 bytes", "extra bits above 7", "outgoing slice under 4,100 bytes", "wire report
 -- above 5"

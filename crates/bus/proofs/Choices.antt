@@ -4,16 +4,14 @@ use mathlib.Core.Bool.{Bool, true, false}
 use Prim.Native.Nat.{ℕ, ◌≤◌, ◌<◌}
 use lib.Dec.{eqb, ltb}
 use borrow.Author.Tests.{lt-ltb, le-ltb, eq-eqb, ne_eqb}
-use Rattle.bus.specs.Choice.{if◌then◌else◌}
+use Rattle.std.specs.Prelude.{if◌then◌else◌}
 
 module _ {A : Type 0} where
   -- a test that holds, and one that doesn't
   pub if_true : (b : Bool) (v x y : A) → b ≡ true → v ≡ x → v ≡ (if b then x else y)
-  unfolding if◌then◌else◌
   if_true b v x y t e = rw t e
 
   pub if_false : (b : Bool) (v x y : A) → b ≡ false → v ≡ y → v ≡ (if b then x else y)
-  unfolding if◌then◌else◌
   if_false b v x y t e = rw t e
 
   -- equality

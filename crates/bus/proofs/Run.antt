@@ -6,7 +6,7 @@ use Prim.Native.Nat.{ℕ, zero, suc, ◌≤◌, ◌<◌}
 use lib.Dec.{eqb, ltb}
 use borrow.Author.Tests.{lt-ltb, le-ltb, eq-eqb, ne_eqb}
 use lib.ListN.{length, length-set, get_or, set}
-use Rattle.bus.specs.Choice.{if◌then◌else◌}
+use Rattle.std.specs.Prelude.{if◌then◌else◌}
 use Rattle.bus.specs.Words.{joined, part, words_at, overwritten}
 use Rattle.bus.specs.Bus.{Bus, done, load, store, Ended, run, ◌>>=◌, reads, bytes, words}
 
@@ -35,11 +35,9 @@ run_gives a b m e = ap (λ (x : _). record { answer = x; memory = m }) (sym e)
 -- the way that a test takes
 module _ {A : Type 0} where
   pub run_if : (b : Bool) (p q : Bus A) (m : List ℕ) → b ≡ true → run (if b then p else q) m ≡ run p m
-  unfolding if◌then◌else◌
   run_if b p q m e = rw e
 
   pub run_else : (b : Bool) (p q : Bus A) (m : List ℕ) → b ≡ false → run (if b then p else q) m ≡ run q m
-  unfolding if◌then◌else◌
   run_else b p q m e = rw e
 
   -- .. to what it leaves: `search ways` follows a chain of tests

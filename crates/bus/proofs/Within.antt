@@ -8,7 +8,7 @@ use mathlib.Core.Bool.{Bool, true, false}
 use mathlib.Core.Logic.{◌⊎◌, inl, inr, ⊎_elim}
 use mathlib.Core.List.{List, [], ◌∷◌}
 use lib.ListN.{length, get_or, set}
-use Rattle.bus.specs.Choice.{if◌then◌else◌}
+use Rattle.std.specs.Prelude.{if◌then◌else◌}
 use Rattle.bus.specs.Words.{joined, part, words_at, overwritten}
 use Rattle.bus.specs.Bus.{Bus, done, load, store, Ended, run, ◌>>=◌, ◌>>◌, reads, words, bytes}
 use Rattle.bus.specs.Within.{Keeps, Within}
@@ -17,7 +17,6 @@ use Rattle.bus.proofs.Run.{run_reads}
 -- what is so of two things is so of the one that a test chooses
 module _ {A : Type 0} (P : A → Type 0) where
   pub so_where : (b : Bool) (x y : A) → (b ≡ true → P x) → (b ≡ false → P y) → P (if b then x else y)
-  unfolding if◌then◌else◌
   so_where true x y p q = p refl
   so_where false x y p q = q refl
 

@@ -1,12 +1,7 @@
 -- What computes when a case is worked out: the definitions of this crate, opened behind one name.
-use Rattle.bus.specs.Choice.{if◌then◌else◌}
 use Rattle.bus.specs.Bits.{weigh}
 use Rattle.bus.specs.Words.{little, bytes_of, part, words_at, overwritten}
 use Rattle.bus.specs.Bus.{run, ◌>>=◌, ◌>>◌, reads, bytes, words, empty_handed, leaves}
-
-unfoldable pub computed_choice : Unit {0}
-unfolding if◌then◌else◌
-computed_choice = tt
 
 unfoldable pub computed_bits : Unit {0}
 unfolding weigh
@@ -21,5 +16,5 @@ unfolding run ◌>>=◌ ◌>>◌ reads bytes words empty_handed leaves
 computed_bus = tt
 
 unfoldable pub computed : Unit {0}
-unfolding computed_choice computed_bits computed_words computed_bus
+unfolding computed_bits computed_words computed_bus
 computed = tt

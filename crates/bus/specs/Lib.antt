@@ -1,5 +1,4 @@
 -- The definitions that the contracts of this crate, and of all that touch memory, cite.
-pub mod Choice
 pub mod Bits
 pub mod Words
 pub mod Bus

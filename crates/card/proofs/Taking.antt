@@ -4,7 +4,7 @@ use mathlib.Core.Bool.{Bool, true, false}
 use mathlib.Core.List.{List}
 use Prim.Native.Nat.{ℕ}
 use lib.ListN.{length}
-use Rattle.bus.specs.Choice.{if◌then◌else◌}
+use Rattle.std.specs.Prelude.{if◌then◌else◌}
 use Rattle.bus.specs.Bus.{Bus, Ended, run, Handed, Left, leaves}
 use Rattle.bus.proofs.Run.{run_if, run_else, run_done, run_then}
 use Rattle.ring.specs.declared.Slot.{Slot}

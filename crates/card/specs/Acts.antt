@@ -1,6 +1,6 @@
 -- The acts on registers: reset, read and write.
 use Rattle.std.specs.Prelude.{ℕ, eqb}
-use Rattle.bus.specs.Choice.{if◌then◌else◌}
+use Rattle.std.specs.Prelude.{if◌then◌else◌}
 use Rattle.bus.specs.Bus.{Bus, done, ◌>>=◌}
 use Rattle.registers.specs.Table.{RDP, RAP, RESET, SELECT, no_register, locked, only_reads, keep}
 use Rattle.answers.specs.Answers.{done as does}

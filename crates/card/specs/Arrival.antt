@@ -1,7 +1,7 @@
 -- The act "frame arrival".
 use Rattle.std.specs.Prelude.{ℕ, ◌+◌, ◌%◌, Bool, List, length, take, ltb}
 use Rattle.fcs.specs.Fcs.{right_fcs}
-use Rattle.bus.specs.Choice.{if◌then◌else◌}
+use Rattle.std.specs.Prelude.{if◌then◌else◌}
 use Rattle.bus.specs.Bus.{Bus, done, ◌>>=◌}
 use Rattle.ring.specs.declared.Slot.{Slot}
 use Rattle.ring.specs.declared.Ring.{Ring}

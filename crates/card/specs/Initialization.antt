@@ -1,6 +1,6 @@
 -- "The initialization block", and the write to CSR0 that reads it.
 use Rattle.std.specs.Prelude.{ℕ, ◌+◌, ◌*◌, ◌/◌, Bool, true, false, ◌&&◌, List, ◌∷◌, get_or, leb}
-use Rattle.bus.specs.Choice.{if◌then◌else◌}
+use Rattle.std.specs.Prelude.{if◌then◌else◌}
 use Rattle.bus.specs.Bits.{bit}
 use Rattle.bus.specs.Bus.{Bus, done, words, ◌>>=◌}
 use Rattle.ring.specs.Loading.{from_words}

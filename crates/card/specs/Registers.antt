@@ -1,6 +1,6 @@
 -- "Registers": what each of the table shows.
 use Rattle.std.specs.Prelude.{ℕ, ◌+◌, ◌-◌, ◌*◌, ◌/◌, ◌%◌, get_or, eqb, ltb}
-use Rattle.bus.specs.Choice.{if◌then◌else◌}
+use Rattle.std.specs.Prelude.{if◌then◌else◌}
 use Rattle.bus.specs.Words.{joined}
 use Rattle.ring.specs.Slots.{slot_shown, length_shown}
 use Rattle.registers.specs.Csr0.{word}

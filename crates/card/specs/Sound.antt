@@ -1,7 +1,7 @@
 -- "Sound means": the sentence of document 01, clause by clause. ERR and INTR are no part of the state, so they agree with
 -- their causes.
 use Rattle.std.specs.Prelude.{ℕ, zero, suc, Bool, true, not, ◌&&◌, List, get_or, eqb}
-use Rattle.bus.specs.Choice.{if◌then◌else◌}
+use Rattle.std.specs.Prelude.{if◌then◌else◌}
 use Rattle.ring.specs.Loading.{unloaded, loaded}
 use Rattle.registers.specs.Csr0.{sound_csr0}
 use Rattle.registers.specs.Table.{settled}

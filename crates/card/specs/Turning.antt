@@ -1,6 +1,6 @@
 -- The act "transmit turn".
 use Rattle.std.specs.Prelude.{ℕ, Bool}
-use Rattle.bus.specs.Choice.{if◌then◌else◌}
+use Rattle.std.specs.Prelude.{if◌then◌else◌}
 use Rattle.bus.specs.Bus.{Bus, done, Handed, empty_handed, ◌>>=◌}
 use Rattle.ring.specs.declared.Slot.{Slot}
 use Rattle.ring.specs.Slots.{moved}

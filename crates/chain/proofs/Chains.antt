@@ -8,7 +8,7 @@ use native.Mathlib.Omega.{arith}
 use lib.ListN.{length}
 use lib.Dec.{ltb}
 use borrow.Author.Tests.{eq-eqb, ne_eqb, ltb-false}
-use Rattle.bus.specs.Choice.{if◌then◌else◌}
+use Rattle.std.specs.Prelude.{if◌then◌else◌}
 use Rattle.bus.specs.Bits.{bit}
 use Rattle.bus.specs.Words.{part}
 use Rattle.bus.specs.Bus.{run, Ended, done, ◌>>=◌}
@@ -73,7 +73,6 @@ module _ (n : ℕ) (ring : Ring) (d : Descriptor) (r : Reach) (P : Chain → Typ
     (further-on : d.address + d.count ≤ n → r.total + d.count ≤ 4096 → P (Open (further ring d r))) where
   ways : (o l e : Bool) → (o ≡ false → d.address + d.count ≤ n) → (l ≡ false → r.total + d.count ≤ 4096)
       → P (if o then Over Memory r else if l then Over Long (further ring d r) else if e then Over Whole (further ring d r) else Open (further ring d r))
-  unfolding if◌then◌else◌
   ways true l e i t = memory
   ways false true e i t = long (i refl)
   ways false false true i t = whole (i refl) (t refl)

@@ -7,7 +7,7 @@ use native.Mathlib.Omega.{arith}
 use lib.ListN.{length, set}
 use lib.Dec.{eqb}
 use borrow.Author.Tests.{eq-eqb, ne_eqb}
-use Rattle.bus.specs.Choice.{if◌then◌else◌}
+use Rattle.std.specs.Prelude.{if◌then◌else◌}
 use Rattle.bus.specs.Bus.{Bus, run, Ended, done, store}
 use Rattle.bus.proofs.Run.{run_done, run_if, run_else, after}
 use Rattle.ring.specs.declared.Slot.{Slot}
@@ -90,7 +90,7 @@ module _ (n : ℕ) (ring : Ring) (k : ℕ) (i j : Slot) (d : Descriptor) (m m' :
   module _ (rest : (m₁ : List ℕ) → run (pass n ring k (next ring i)) m₁ ≡ record { answer = Frame j d; memory = m' } → found n ring j m' ≡ Owned d) where
     owned : (b : Bool) (d₁ : Descriptor) (a v : ℕ) → found n ring i m ≡ Owned d₁
         → Here (if b then done (Frame i d₁) else store a v (pass n ring k (next ring i))) → found n ring j m' ≡ Owned d
-    unfolding if◌then◌else◌ run
+    unfolding run
     owned true d₁ a v ef e = let s : Frame i d₁ ≡ Frame j d = only (Frame i d₁) e in let l : m ≡ m' = ap (λ (x : Ended Start). x.memory) e in cc
     owned false d₁ a v ef e = rest (set m a v) e
 

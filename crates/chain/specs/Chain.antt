@@ -1,7 +1,7 @@
 -- The chain of descriptors of a frame: "From STP the chain is read to ENP, nothing being written till it is read." It is read from
 -- the bottom: `read_chain` is the whole chain.
 use Rattle.std.specs.Prelude.{ℕ, zero, suc, ◌+◌, ◌-◌, ltb}
-use Rattle.bus.specs.Choice.{if◌then◌else◌}
+use Rattle.std.specs.Prelude.{if◌then◌else◌}
 use Rattle.bus.specs.Bits.{bit}
 use Rattle.bus.specs.Bus.{Bus, done, ◌>>=◌}
 use Rattle.ring.specs.declared.Slot.{Slot}

@@ -1,6 +1,6 @@
 -- Where a turn finds the start of a frame.
 use Rattle.std.specs.Prelude.{ℕ, zero, suc, ◌+◌}
-use Rattle.bus.specs.Choice.{if◌then◌else◌}
+use Rattle.std.specs.Prelude.{if◌then◌else◌}
 use Rattle.bus.specs.Bits.{bit}
 use Rattle.bus.specs.Bus.{Bus, done, store, ◌>>=◌}
 use Rattle.ring.specs.declared.Slot.{Slot}

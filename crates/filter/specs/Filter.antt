@@ -1,7 +1,7 @@
 -- The address filter: which destinations are ours.
 use Rattle.std.specs.Prelude.{ℕ, zero, suc, ◌/◌, ◌%◌, ◌^◌, Bool, true, not, ◌&&◌, ◌||◌, List, get_or, replicate, eqb}
 use Rattle.fcs.specs.Fcs.{hash_of}
-use Rattle.bus.specs.Choice.{if◌then◌else◌}
+use Rattle.std.specs.Prelude.{if◌then◌else◌}
 use Rattle.bus.specs.Bits.{bit}
 
 -- bits of MODE

@@ -1,6 +1,6 @@
 -- A frame's way through the receive ring, from the current slot on. It is read from the bottom: `walk` is the whole way.
 use Rattle.std.specs.Prelude.{ℕ, zero, suc, ◌+◌, ◌-◌, List, length, take, drop, leb, ltb}
-use Rattle.bus.specs.Choice.{if◌then◌else◌}
+use Rattle.std.specs.Prelude.{if◌then◌else◌}
 use Rattle.bus.specs.Words.{bytes_of}
 use Rattle.bus.specs.Bus.{Bus, done, store, bytes, ◌>>=◌, ◌>>◌}
 use Rattle.ring.specs.declared.Slot.{Slot}

@@ -4,7 +4,6 @@ use mathlib.Core.Bool.{Bool, true, false, not, ◌&&◌, ◌||◌, and-eq-true_i
 use Prim.Native.Nat.{ℕ, ◌+◌, ◌*◌, ◌/◌, ◌%◌}
 use native.Mathlib.Omega.{arith}
 use borrow.Author.Tests.{ne_eqb, not-true}
-use Rattle.bus.specs.Choice.{if◌then◌else◌}
 use Rattle.bus.specs.Bits.{bit, weigh}
 use Rattle.registers.specs.declared.Csr0.{Csr0}
 use Rattle.registers.specs.Bits.{MERR, IDON, IENA, RXON, TXON, TDMD, STOP, STRT, INIT, DRX, DTX}
@@ -180,7 +179,7 @@ unstarted s true false e = rw e
 unstarted s true true e = rw e
 
 pub not_started : (s : Csr0) (mode v : ℕ) → s.strt ≡ false → (finished s mode false v).strt ≡ false
-unfolding finished started enabled demanded if◌then◌else◌
+unfolding finished started enabled demanded
 not_started s mode v e = rw (and-false (bit v STRT && not s.strt)) (unstarted s _ _ e)
 
 -- "INIT clears STOP": what an initialization makes of a stopped card, whether it succeeds or fails

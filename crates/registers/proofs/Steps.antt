@@ -2,7 +2,6 @@
 use mathlib.Core.Path.{◌≡◌}
 use mathlib.Core.Bool.{Bool, true, false, not, ◌&&◌}
 use Prim.Native.Nat.{ℕ, ◌+◌}
-use Rattle.bus.specs.Choice.{if◌then◌else◌}
 use Rattle.bus.specs.Bits.{bit, weigh}
 use Rattle.registers.specs.declared.Csr0.{Csr0}
 use Rattle.registers.specs.Bits.{IENA, RXON, TXON, TDMD, STOP, STRT, DRX, DTX}
@@ -13,11 +12,11 @@ use Rattle.registers.specs.Writing.{started, enabled, demanded, finished}
 pub starts : (s t : Csr0) (mode : ℕ) (ready : Bool) (v receiver transmitter : ℕ) → (bit v STRT && not s.strt && ready) ≡ true
     → receiver ≡ weigh (not (bit mode DRX)) RXON → transmitter ≡ weigh (not (bit mode DTX)) TXON
     → t ≡ changed s (STRT + receiver + transmitter) STOP → t ≡ started s mode ready v
-unfolding started if◌then◌else◌
+unfolding started
 starts s t mode ready v receiver transmitter b er et e = rw (b, e, er, et)
 
 pub starts_not : (s : Csr0) (mode : ℕ) (ready : Bool) (v : ℕ) → (bit v STRT && not s.strt && ready) ≡ false → s ≡ started s mode ready v
-unfolding started if◌then◌else◌
+unfolding started
 starts_not s mode ready v b = rw b
 
 -- IENA, and TDMD

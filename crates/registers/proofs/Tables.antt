@@ -5,7 +5,6 @@ use Prim.Native.Nat.{ℕ, ◌+◌, ◌*◌, ◌/◌, ◌%◌, ◌<◌}
 use native.Mathlib.Omega.{arith}
 use lib.Dec.{eqb}
 use borrow.Author.Tests.{eq-eqb, ne_eqb, eqb-true}
-use Rattle.bus.specs.Choice.{if◌then◌else◌}
 use Rattle.bus.proofs.Within.{so_if}
 use Rattle.registers.specs.declared.Written.{Written}
 use Rattle.registers.specs.Table.{SELECT, kept, keep, settled}
@@ -13,24 +12,24 @@ use Rattle.registers.specs.Table.{SELECT, kept, keep, settled}
 -- a write to RAP, CSR1, CSR2 and CSR3 puts what the row keeps of the word there
 module _ (w : Written) (r v k : ℕ) where
   pub keep_rap : r ≡ SELECT → k ≡ kept r v → record { rap = k; csr1 = w.csr1; csr2 = w.csr2; csr3 = w.csr3 } ≡ keep w r v
-  unfolding keep if◌then◌else◌
+  unfolding keep
   keep_rap h e = rw (e, h)
 
   pub keep_csr1 : r ≡ 1 → k ≡ kept r v → record { rap = w.rap; csr1 = k; csr2 = w.csr2; csr3 = w.csr3 } ≡ keep w r v
-  unfolding keep if◌then◌else◌
+  unfolding keep
   keep_csr1 h e = rw (e, h)
 
   pub keep_csr2 : r ≡ 2 → k ≡ kept r v → record { rap = w.rap; csr1 = w.csr1; csr2 = k; csr3 = w.csr3 } ≡ keep w r v
-  unfolding keep if◌then◌else◌
+  unfolding keep
   keep_csr2 h e = rw (e, h)
 
   pub keep_csr3 : r ≡ 3 → k ≡ kept r v → record { rap = w.rap; csr1 = w.csr1; csr2 = w.csr2; csr3 = k } ≡ keep w r v
-  unfolding keep if◌then◌else◌
+  unfolding keep
   keep_csr3 h e = rw (e, h)
 
 -- .. and a write to another row changes none of them
 pub keep_none : (w : Written) (r v : ℕ) → (r ≡ SELECT → ⊥) → (r ≡ 1 → ⊥) → (r ≡ 2 → ⊥) → (r ≡ 3 → ⊥) → w ≡ keep w r v
-unfolding keep if◌then◌else◌
+unfolding keep
 keep_none w r v a b c d = rw (ne_eqb r SELECT a, ne_eqb r 1 b, ne_eqb r 2 c, ne_eqb r 3 d)
 
 -- the registers are settled where each keeps what it has
@@ -41,23 +40,23 @@ settled_is w a b c ea eb ec = rw (ea, eb, ec)
 
 -- what a register keeps of a word it keeps whole
 again_rap : (v : ℕ) → kept SELECT (kept SELECT v) ≡ kept SELECT v
-unfolding kept if◌then◌else◌
+unfolding kept
 again_rap v = omega arith
 
 again_csr2 : (v : ℕ) → kept 2 (kept 2 v) ≡ kept 2 v
-unfolding kept if◌then◌else◌
+unfolding kept
 again_csr2 v = omega arith
 
 -- "CSR3 keeps bits 14, 12, 11, 10, 9, 8"
 kept_bits : (a b : ℕ) → a < 2 → b < 32 → kept 3 (a * 0x4000 + b * 0x100) ≡ a * 0x4000 + b * 0x100
-unfolding kept if◌then◌else◌
+unfolding kept
 kept_bits a b h l =
     let high : (a * 0x4000 + b * 0x100) / 0x4000 % 2 ≡ a = omega arith in
     let low : (a * 0x4000 + b * 0x100) / 0x100 % 32 ≡ b = omega arith in
     rw (high, low)
 
 again_csr3 : (v : ℕ) → kept 3 (kept 3 v) ≡ kept 3 v
-unfolding kept if◌then◌else◌
+unfolding kept
 again_csr3 v = kept_bits (v / 0x4000 % 2) (v / 0x100 % 32) (omega arith) (omega arith)
 
 -- the written registers are settled where each has only bits that it keeps
@@ -91,5 +90,5 @@ keep_settled w r v h =
 
 -- RAP, once settled, selects one of 128 rows
 pub settled_rap : (w : Written) → settled w ≡ true → w.rap < 128
-unfolding kept if◌then◌else◌
+unfolding kept
 settled_rap w h = let e : w.rap % 128 ≡ w.rap = (of_settled w h).rap in omega arith

@@ -1,6 +1,6 @@
 -- The table of registers: which there are, which lock, which are written and which bits each keeps. What each shows is in `card`.
 use Rattle.std.specs.Prelude.{ℕ, ◌+◌, ◌*◌, ◌/◌, ◌%◌, Bool, true, false, not, ◌&&◌, ◌||◌, List, [], ◌∷◌, eqb}
-use Rattle.bus.specs.Choice.{if◌then◌else◌}
+use Rattle.std.specs.Prelude.{if◌then◌else◌}
 use Rattle.registers.specs.declared.Written.{Written}
 
 -- "Offsets from the card's base, word accesses only: 10h RDP, 12h RAP, 14h reset."

@@ -1,6 +1,6 @@
 -- A write of v to CSR0 without STOP, "in this order".
 use Rattle.std.specs.Prelude.{ℕ, ◌+◌, ◌*◌, ◌/◌, ◌%◌, Bool, not, ◌&&◌}
-use Rattle.bus.specs.Choice.{if◌then◌else◌}
+use Rattle.std.specs.Prelude.{if◌then◌else◌}
 use Rattle.registers.specs.declared.Csr0.{Csr0}
 use Rattle.bus.specs.Bits.{bit, weigh}
 use Rattle.registers.specs.Bits.{IENA, RXON, TXON, TDMD, STOP, STRT, DRX, DTX}

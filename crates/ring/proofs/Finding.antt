@@ -8,7 +8,7 @@ use native.Mathlib.Omega.{arith}
 use lib.ListN.{length, get_or}
 use lib.Dec.{leb, lit<}
 use borrow.Author.Tests.{le-leb, lt-leb, leb-true}
-use Rattle.bus.specs.Choice.{if◌then◌else◌}
+use Rattle.std.specs.Prelude.{if◌then◌else◌}
 use Rattle.bus.specs.Words.{joined, part}
 use Rattle.bus.specs.Bus.{run, Ended, done, reads, ◌>>=◌}
 use Rattle.bus.proofs.Bytes.{get_d_part}
@@ -43,7 +43,6 @@ found n r i m = if leb (place r i + 8) n then found_in (part m (place r i) 8) el
 looked : (b : Bool) (at : ℕ) (m : List ℕ)
     → run (if b then reads at 8 >>= (λ bs. done (found_in bs)) else done Outside) m
     ≡ record { answer = if b then found_in (part m at 8) else Outside; memory = m }
-unfolding if◌then◌else◌
 looked true at m = after (reads at 8) (λ bs. done (found_in bs)) m m (part m at 8) (run_reads at 8 m) ∙ run_done (found_in (part m at 8)) m
 looked false at m = run_done Outside m
 
@@ -57,24 +56,23 @@ look_finds n r i m f e = ap (λ (x : Ended Found). x.answer) (sym (run_look n r 
 -- the three ways of looking at a slot whose descriptor stands at `at`
 module _ (m : List ℕ) (r : Ring) (i : Slot) (at : ℕ) (e : at ≡ place r i) where
   pub look_outside : length m < at + 8 → run (look (length m) r i) m ≡ record { answer = Outside; memory = m }
-  unfolding found if◌then◌else◌
+  unfolding found
   look_outside h = run_look (length m) r i m ∙ rw (← e, lt-leb (at + 8) (length m) h)
 
   pub look_not_owned : at + 8 ≤ length m → get_or m (at + 3) 0 < 128 → run (look (length m) r i) m ≡ record { answer = NotOwned; memory = m }
-  unfolding found found_in if◌then◌else◌
+  unfolding found found_in
   look_not_owned h l =
       run_look (length m) r i m ∙ rw (← e, le-leb (at + 8) (length m) h, byte m at 3 (lit< tt), lt-leb 128 (get_or m (at + 3) 0) l)
 
   pub look_owned : (d : Descriptor) → at + 8 ≤ length m → 128 ≤ get_or m (at + 3) 0 → d ≡ described (part m at 8)
       → run (look (length m) r i) m ≡ record { answer = Owned d; memory = m }
-  unfolding found found_in if◌then◌else◌
+  unfolding found found_in
   look_owned d h l ed =
       run_look (length m) r i m
       ∙ rw (← e, le-leb (at + 8) (length m) h, byte m at 3 (lit< tt), le-leb 128 (get_or m (at + 3) 0) l, ed)
 
 -- an owned descriptor is inside, and says what its bytes say
 inside : (b : Bool) (at n : ℕ) (bs : List ℕ) (d : Descriptor) → leb at n ≡ b → (if b then found_in bs else Outside) ≡ Owned d → at ≤ n
-unfolding if◌then◌else◌
 inside true at n bs d t e = leb-true at n t
 inside false at n bs d t e = let z : ◌≡◌ {A = ℕ} 0 1 = cc in omega arith
 
@@ -83,7 +81,6 @@ unfolding found
 found_inside n r i m d e = inside (leb (place r i + 8) n) (place r i + 8) n (part m (place r i) 8) d refl e
 
 says : (b o : Bool) (bs : List ℕ) (d : Descriptor) → (if b then (if o then Owned (described bs) else NotOwned) else Outside) ≡ Owned d → d ≡ described bs
-unfolding if◌then◌else◌
 says true true bs d e = cc
 says true false bs d e = cc
 says false o bs d e = cc

@@ -5,7 +5,7 @@ use mathlib.Core.Path.{◌≡◌, refl}
 use mathlib.Core.Bool.{Bool, true, false, ◌&&◌, and-eq-true_iff}
 use lib.Dec.{ltb}
 use borrow.Author.Tests.{ltb-true, lt-ltb, eq-eqb}
-use Rattle.bus.specs.Choice.{if◌then◌else◌}
+use Rattle.std.specs.Prelude.{if◌then◌else◌}
 use Rattle.ring.specs.declared.Slot.{Slot}
 use Rattle.ring.specs.declared.Ring.{Ring}
 use Rattle.ring.specs.Slots.{slots, next, moved}
@@ -48,7 +48,7 @@ moved_loaded r i e h =
 
 -- the slot after any slot of a ring that has slots is in it
 pub next_within : (r : Ring) (i : Slot) → 0 < slots r → (next r i).0 < slots r
-unfolding next if◌then◌else◌
+unfolding next
 next_within r i h = go (ltb (i.0 + 1) (slots r)) refl
   where
     go : (b : Bool) → ltb (i.0 + 1) (slots r) ≡ b → (if◌then◌else◌ {A = Slot} b (record { 0 = i.0 + 1 }) (record { 0 = 0 })).0 < slots r

@@ -8,7 +8,7 @@ use mathlib.Core.List.{List}
 use lib.ListN.{get_or}
 use lib.Dec.{leb, lit<}
 use borrow.Author.Tests.{leb-true}
-use Rattle.bus.specs.Choice.{if◌then◌else◌}
+use Rattle.std.specs.Prelude.{if◌then◌else◌}
 use Rattle.bus.specs.Words.{part}
 use Rattle.bus.specs.Bus.{Bus, Ended, reads, ◌>>=◌}
 use Rattle.bus.specs.Within.{Keeps, Within}
@@ -35,7 +35,6 @@ so_by P (Owned d) x y g p q r = r d refl
 -- a descriptor that is found owned has OWN set
 owns : (b o : Bool) (x : ℕ) (bs : List ℕ) (d : Descriptor) → leb 128 x ≡ o
     → (if b then (if o then Owned (described bs) else NotOwned) else Outside) ≡ Owned d → 128 ≤ x
-unfolding if◌then◌else◌
 owns true true x bs d t e = leb-true 128 x t
 owns true false x bs d t e = let z : ◌≡◌ {A = ℕ} 0 1 = cc in omega arith
 owns false o x bs d t e = let z : ◌≡◌ {A = ℕ} 0 1 = cc in omega arith

@@ -1,6 +1,6 @@
 -- What a descriptor says, and how the card reads one.
 use Rattle.std.specs.Prelude.{ℕ, ◌+◌, ◌-◌, ◌*◌, ◌%◌, List, get_or, leb}
-use Rattle.bus.specs.Choice.{if◌then◌else◌}
+use Rattle.std.specs.Prelude.{if◌then◌else◌}
 use Rattle.bus.specs.Words.{joined}
 use Rattle.bus.specs.Bus.{Bus, done, reads, ◌>>=◌}
 use Rattle.ring.specs.declared.Slot.{Slot}

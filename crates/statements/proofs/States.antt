@@ -2,7 +2,7 @@
 use Prim.Native.Nat.{ℕ}
 use mathlib.Core.Path.{◌≡◌, refl, sym, subst, ◌∙◌}
 use mathlib.Core.Bool.{Bool, true, false, not, ◌&&◌, and-eq-true_iff, false≢true}
-use Rattle.bus.specs.Choice.{if◌then◌else◌}
+use Rattle.std.specs.Prelude.{if◌then◌else◌}
 use Rattle.bus.specs.Words.{bytes_of}
 use Rattle.ring.specs.declared.Ring.{Ring}
 use Rattle.ring.specs.Loading.{loaded}
@@ -26,7 +26,7 @@ pub record Parts (c : Card) : Type 0 where
   pub fits : Fitting c
 
 fits_by : (c : Card) (b : Bool) → c.initialized ≡ b → (if b then afterwards c else before c) ≡ true → Fitting c
-unfolding if◌then◌else◌ afterwards
+unfolding afterwards
 fits_by c true e h = let both = (and-eq-true_iff _ _).0 h in after_one e both.0 both.1
 fits_by c false e h = before_one e h
 
@@ -38,7 +38,7 @@ apart c e =
     record { csr0 = kind_of c.csr0 one.0; written = one.1; fits = fits_by c c.initialized refl two.1 }
 
 fitting_of : (c : Card) → Fitting c → fitting c ≡ true
-unfolding fitting if◌then◌else◌ afterwards
+unfolding fitting afterwards
 fitting_of c (before_one e h) = subst (λ (b : Bool). (if b then afterwards c else before c) ≡ true) (sym e) h
 fitting_of c (after_one e h l) =
     subst (λ (b : Bool). (if b then afterwards c else before c) ≡ true) (sym e) ((and-eq-true_iff _ _).1 (h, l))
@@ -51,7 +51,7 @@ together c p =
 
 -- the state after reset is sound
 pub fresh_sound : sound fresh ≡ true
-unfolding sound fresh state_of csr0_of sound_csr0 settled kept fitting if◌then◌else◌ before zeros bytes_of
+unfolding sound fresh state_of csr0_of sound_csr0 settled kept fitting before zeros bytes_of
 fresh_sound = refl
 
 -- "before a successful initialization STRT is clear"

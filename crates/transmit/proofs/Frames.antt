@@ -7,7 +7,6 @@ use native.Mathlib.Nat.{zero-add, sub-zero, mul-add-mod_self_left, div-div-eq-di
 use native.Mathlib.Omega.{arith}
 use lib.ListN.{length, take, length-append}
 use Rattle.fcs.specs.Fcs.{fcs_of}
-use Rattle.bus.specs.Choice.{if◌then◌else◌}
 use Rattle.bus.specs.Words.{bytes_of, part, overwritten}
 use Rattle.bus.proofs.Bytes.{length_part}
 use Rattle.ring.specs.declared.Slot.{Slot}
@@ -116,12 +115,12 @@ fcs_written out out₁ out₂ n x e e₁ e₂ =
 -- a frame f in the slice, and its FCS behind it where it is asked for
 module _ (f out out₁ : List ℕ) (n : ℕ) (append : Bool) (en : n ≡ length f) (eo : out₁ ≡ overwritten out 0 f) where
   pub fcs_long : append ≡ true → n + 4 ≡ length (with_fcs append f)
-  unfolding with_fcs bytes_of if◌then◌else◌
+  unfolding with_fcs bytes_of
   fcs_long t = rw (t, length-append, en)
 
   pub fcs_behind : (out₂ : List ℕ) → append ≡ true → length f ≤ 4096 → 4100 ≤ length out
       → out₂ ≡ overwritten out₁ n (bytes_of 4 (fcs_of (take n out₁))) → out₂ ≡ overwritten out 0 (with_fcs append f)
-  unfolding with_fcs if◌then◌else◌
+  unfolding with_fcs
   fcs_behind out₂ t l o e =
       let h : length f ≤ length out = omega arith in
       let z : 0 + length f ≡ length f = zero-add (length f) in
@@ -130,9 +129,9 @@ module _ (f out out₁ : List ℕ) (n : ℕ) (append : Bool) (en : n ≡ length 
       (ap (λ (k : ℕ). overwritten (overwritten out 0 f) k (bytes_of 4 (fcs_of f))) (sym z) ∙ written_more f (bytes_of 4 (fcs_of f)) out 0))
 
   pub bare_long : append ≡ false → n ≡ length (with_fcs append f)
-  unfolding with_fcs if◌then◌else◌
+  unfolding with_fcs
   bare_long t = rw t en
 
   pub bare_written : append ≡ false → out₁ ≡ overwritten out 0 (with_fcs append f)
-  unfolding with_fcs if◌then◌else◌
+  unfolding with_fcs
   bare_written t = rw t eo

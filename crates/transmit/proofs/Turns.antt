@@ -6,7 +6,6 @@ use Prim.Native.Nat.{ℕ, zero, suc, ◌+◌, ◌/◌, ◌%◌, ◌≤◌, ◌<�
 use native.Mathlib.Omega.{arith}
 use lib.ListN.{length, length-append}
 use lib.Dec.{eqb, leb}
-use Rattle.bus.specs.Choice.{if◌then◌else◌}
 use Rattle.bus.specs.Bits.{bit, weigh}
 use Rattle.bus.specs.Words.{bytes_of, overwritten}
 use Rattle.bus.specs.Bus.{run, Ended, done, reads, Handed, empty_handed, Left, leaves, ◌>>◌}
@@ -45,11 +44,11 @@ use Rattle.chain.proofs.Reaching.{chain_ready}
 module _ (mode : ℕ) (w : Report) where
   pub meant_retry : (bit mode 0x0020 && (eqb w.result 1 || eqb w.result 2)) ≡ true
       → record { result = 3; deferred = w.deferred; noheartbeat = w.noheartbeat } ≡ meant mode w
-  unfolding meant if◌then◌else◌
+  unfolding meant
   meant_retry h = rw h
 
   pub meant_same : (bit mode 0x0020 && (eqb w.result 1 || eqb w.result 2)) ≡ false → w ≡ meant mode w
-  unfolding meant if◌then◌else◌
+  unfolding meant
   meant_same h = rw h
 
 -- what a report leaves in the last status, bit by bit
@@ -82,7 +81,7 @@ leaves_handing m out out₁ f n i en eo h = rw (en, eo, written_front f out)
 
 -- a frame with its FCS has room
 fcs_room : (append : Bool) (f out : List ℕ) → length f ≤ 4096 → 4100 ≤ length out → length (with_fcs append f) ≤ length out
-unfolding with_fcs bytes_of if◌then◌else◌
+unfolding with_fcs bytes_of
 fcs_room true f out h l = rw length-append (omega arith)
 fcs_room false f out h l = omega arith
 

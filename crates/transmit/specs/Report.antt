@@ -1,6 +1,6 @@
 -- The wire report: what it means, and what it leaves in a chain's last descriptor.
 use Rattle.std.specs.Prelude.{ℕ, ◌+◌, ◌*◌, ◌/◌, ◌%◌, Bool, not, ◌&&◌, ◌||◌, eqb, leb}
-use Rattle.bus.specs.Choice.{if◌then◌else◌}
+use Rattle.std.specs.Prelude.{if◌then◌else◌}
 use Rattle.bus.specs.Bits.{bit, weigh}
 use Rattle.ring.specs.Status.{ERR}
 use Rattle.chain.specs.Status.{ADD_FCS, MORE, ONE, DEF}

@@ -1,7 +1,7 @@
 -- A transmit turn on the ring. It is read from the bottom: `turn` is the whole turn.
 use Rattle.std.specs.Prelude.{ℕ, zero, suc, ◌+◌, ◌-◌, Bool, not, ◌||◌, List, [], ◌++◌, length}
 use Rattle.fcs.specs.Fcs.{fcs_of}
-use Rattle.bus.specs.Choice.{if◌then◌else◌}
+use Rattle.std.specs.Prelude.{if◌then◌else◌}
 use Rattle.bus.specs.Bits.{bit}
 use Rattle.bus.specs.Words.{bytes_of}
 use Rattle.bus.specs.Bus.{Bus, done, load, store, reads, bytes, Handed, empty_handed, ◌>>=◌, ◌>>◌}

@@ -1,8 +1,6 @@
 -- `is_writable`: the code's tests are the table's numbers.
 use mathlib.Core.Path.{refl}
-use Rattle.bus.specs.Choice.{if◌then◌else◌}
 use Rattle.registers.proofs.table.is_writable.Goals as goal
 
 pub returns : goal.returns
-unfolding if◌then◌else◌
 returns c = refl
