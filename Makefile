@@ -21,15 +21,16 @@ run: ready lib ## stream a sector through the card (FILE=.. for one of your own)
 	@$(call C,examples/runtime.c,target/examples/runtime)
 	@$(RUN) target/examples/runtime $(FILE)
 
-test: ready ## the gate: layout, every proof from nothing, must-fail edits, programs, cross-checks
-	@rt fmt --check
-	@log=$$(mktemp); status=0; rt ci 2>&1 | tee $$log || status=$$?; mkdir -p target; cat $$log > target/gate.log; rm $$log; exit $$status
+test: ready ## the gate: layout, every proof, must-fail edits, programs, cross-checks
+	@mkdir -p target
+	@rt ci 2>&1 | tee target/gate.log
+	@if grep -E '^rt: ok.*, [1-9][0-9]* bad' target/gate.log; then echo 'gate: an edit could not be applied'; exit 1; fi
 	@$(MAKE) --no-print-directory checks
 	@tail -n 1 target/gate.log | grep -xE '[0-9]+ passed, 0 failed'
 
 checks: ready lib ## compare the archives with independent programs
-	@rt staticlib fcs_c
-	@$(call R,checks/fcs.rs,target/checks/fcs,target/staticlib,fcs_c)
+	@cd crates/fcs_c && rt lib
+	@$(call R,checks/fcs.rs,target/checks/fcs,crates/fcs_c/out,fcs_c)
 	@$(RUN) target/checks/fcs
 	@$(NM) -g --defined-only $(CARD) | awk 'NF == 3 { print $$3 }' | sort > target/checks/names
 	@printf 'am79c960_entry_%s\n' arrive read reset turn write | diff - target/checks/names || { \
@@ -54,18 +55,18 @@ soak: ready lib ## the comparison with the second model on 2,000,000 calls, from
 	@$(RUN) target/checks/model 2000000 $${SEED:-20261115}
 
 bench: ready lib ## time the FCS beside zlib, a bytewise table and slicing-by-8, and arrivals through the C entries
-	@rt staticlib fcs_c
+	@cd crates/fcs_c && rt lib
 	@mkdir -p target/bench
 	@zlib=; if echo 'int main(void) { return 0; }' | $(CC) -x c - -lz -o target/bench/zlib 2>/dev/null; then zlib='--cfg zlib -l z'; fi; \
-	  $(call R,bench/fcs.rs,target/bench/fcs,target/staticlib,fcs_c,$$zlib)
+	  $(call R,bench/fcs.rs,target/bench/fcs,crates/fcs_c/out,fcs_c,$$zlib)
 	@$(RUN) target/bench/fcs "$(ON)"
 	@$(call C,bench/arrive.c,target/bench/arrive)
 	@$(RUN) target/bench/arrive "$(ON)"
 
 lib: ## prove the C entries and write build/libam79c960.a, beside its header
-	@rt staticlib am79c960
+	@cd crates/am79c960 && rt lib
 	@mkdir -p build
-	@cp target/staticlib/libam79c960.a include/am79c960.h build/
+	@cp crates/am79c960/out/libam79c960.a include/am79c960.h build/
 
 install: lib ## put archive, header and pkg-config file under PREFIX
 	@install -d $(DESTDIR)$(PREFIX)/lib/pkgconfig $(DESTDIR)$(PREFIX)/include

@@ -86,7 +86,7 @@ def mapping():
             new[name] = snake(name)
             for part in name.split("◌"):    # where a mixfix name is used its parts stand alone
                 new[part] = snake(part)
-    new = {a: b for a, b in new.items() if a != b and re.search("[a-z]", a)}
+    new = {a: b for a, b in new.items() if a != b and re.search("[A-Za-z]", a)}
     taken = {}
     for name in sorted(old):
         taken.setdefault(new.get(name, name), []).append(name)
