@@ -50,12 +50,12 @@ pub fn turn(
     size: usize,
     out: &mut Bytes,
     room: usize,
-    res: u32,
+    wire: u32,
     deferred: bool,
     noheartbeat: bool,
 ) -> Reply {
     let report = Report {
-        result: res,
+        result: wire,
         deferred,
         noheartbeat,
     };

@@ -1,6 +1,6 @@
 -- Each public contract of the crate registers leaves one answer.
 use Rattle.bus.proofs.Only.{Only, equation}
-use Rattle.registers.proofs.Csr0.line_of.Reads as Line_of
+use Rattle.registers.proofs.Csr0.line_of.Reads as line_of
 use Rattle.registers.proofs.Csr0.word.Reads as word
 use Rattle.registers.proofs.Csr0.stopped.Reads as stopped
 use Rattle.registers.proofs.Csr0.changed.Reads as changed
@@ -15,7 +15,7 @@ use Rattle.registers.proofs.Written.keep.Reads as keep
 use Rattle.registers.proofs.Written.is_settled.Reads as is_settled
 
 -- the level of the interrupt line
-pub one_line_of : Only Line_of.Post
+pub one_line_of : Only line_of.Post
 one_line_of κs a r s e f = equation
 
 -- the word of CSR0
