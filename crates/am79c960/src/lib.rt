@@ -32,6 +32,7 @@ fn packed(r: Reply) -> u64
 }
 
 // A reply is handed back, and its state stored where nothing is refused.
+#[tactic(auto, using(crate::proofs::Entering::stores, crate::proofs::Entering::keeps))]
 fn given(block: &mut [u8], r: Reply) -> u64
     requires { length block.old ≡ 512 }
     ensures { given block.old r ≡ record { result = result; block = block.new } }
@@ -47,6 +48,7 @@ fn given(block: &mut [u8], r: Reply) -> u64
 }
 
 // The act "reset".
+#[tactic(auto, using(crate::proofs::Entering::reset_goes, crate::proofs::Entering::reset_shut))]
 #[unsafe(no_mangle)]
 pub extern "C" fn am79c960_entry_reset(block: &mut [u8]) -> u64
     ensures { reset_entry block.old ≡ record { result = result; block = block.new } }

@@ -79,7 +79,7 @@ read_never_9 a b = passes _ (other 7 a _ (omega arith) (other 6 b _ (omega arith
 
 pub write_never_9 : (n : ℕ) (a b c : Bool) → write_number true n a b c ≡ 9 → ⊥
 unfolding write_number
-write_never_9 n a b c = passes _ (other 1 _ _ (omega arith) (other 7 a _ (omega arith) (other 6 b _ (omega arith) (other 8 c _ (omega arith) none))))
+write_never_9 n a b c = passes _ (search (other, none, arith) depth 12)
 
 pub arrive_never_9 : (n frame extra : ℕ) → arrive_number true n frame extra ≡ 9 → ⊥
 unfolding arrive_number

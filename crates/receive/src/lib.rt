@@ -132,6 +132,7 @@ fn beyond(memory: &mut [u8], ring: Ring, slot: Slot, stp: u8) -> Step
 }
 
 // A slot's buffer takes what fits of the frame, and what comes after the slot is found out.
+#[tactic(auto, using(crate::proofs::Fills::fill_outside, crate::proofs::Fills::fill_ended, crate::proofs::Fills::fill_cut, crate::proofs::Fills::fill_goes, crate::proofs::Fills::fill_onto), unfolding(crate::specs::Inner::Step::Onto))]
 fn fill_slot(memory: &mut [u8], ring: Ring, current: Current, frame: &[u8], end: u8) -> Step
     requires { Kept (length memory.old) ring frame.now current × (end < 128) }
     ensures same_run { run (remaining (length memory.old) ring frame.now end current) memory.old ≡ run (onward result (resumed (length memory.old) ring frame.now end current)) memory.new }

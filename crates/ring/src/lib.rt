@@ -199,6 +199,7 @@ pub fn described(memory: &[u8], at: usize) -> Descriptor
 }
 
 // What stands at a slot.
+#[tactic(auto, using(crate::proofs::Finding::look_outside, crate::proofs::Finding::look_not_owned, crate::proofs::Finding::look_owned))]
 pub fn look(memory: &[u8], ring: Ring, slot: Slot) -> Found
     ensures { run (look (length memory.now) ring slot) memory.now ≡ record { answer = result; memory = memory.now } }
 {
