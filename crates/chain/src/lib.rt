@@ -8,14 +8,7 @@ ghost use Rattle.chain.specs.Start.{pass};
 ghost use Rattle.chain.specs.Chain.{grow, link, links, read_chain};
 ghost use Rattle.chain.specs.Inner.Bounds.{Counted, Within, Small};
 
-use ring::{Descriptor, Found, Ring, Slot, look};
-
-// Bits of a status.
-const OWN: u8 = 0x80;
-
-const STP: u8 = 0x02;
-
-const ENP: u8 = 0x01;
+use ring::{Descriptor, ENP, Found, OWN, Ring, STP, Slot, look};
 
 // The most bytes that a chain may have.
 const MOST: u16 = 4096;

@@ -10,20 +10,14 @@ ghost use Rattle.receive.specs.Status.{end_status};
 ghost use Rattle.receive.specs.Walk.{walk, beyond, ended, leave, status};
 ghost use Rattle.receive.specs.Inner.Step.{onward, stops_at, ending_of, remaining, resumed, Onto, Fits, Kept, Goes};
 
-use ring::{Descriptor, Found, Ring, Slot};
+use ring::{Descriptor, ENP, ERR, Found, Ring, STP, Slot};
 
-// The bits of a receive status.
-const ERR: u8 = 0x40;
-
+// The bits that only a receive status has.
 const FRAM: u8 = 0x20;
 
 const CRC: u8 = 0x08;
 
 const BUFF: u8 = 0x04;
-
-const STP: u8 = 0x02;
-
-const ENP: u8 = 0x01;
 
 // How a walk ends.
 #[derive(Clone, Copy)]

@@ -8,8 +8,14 @@ ghost use Rattle.ring.specs.Slots.{slots, slot_shown, length_shown, next, place,
 ghost use Rattle.ring.specs.Loading.{none, from_words, kept_by_base, is_length, unloaded, loaded};
 ghost use Rattle.ring.specs.Descriptor.{count_of, described, look};
 
-// OWN of a status.
-const OWN: u8 = 0x80;
+// The bits that a status byte of either ring has.
+pub const OWN: u8 = 0x80;
+
+pub const ERR: u8 = 0x40;
+
+pub const STP: u8 = 0x02;
+
+pub const ENP: u8 = 0x01;
 
 // A slot number counts from zero.
 #[derive(Clone, Copy)]

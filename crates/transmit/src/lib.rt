@@ -12,13 +12,9 @@ ghost use Rattle.transmit.specs.Turn.{with_fcs, release, finish, give_back, send
 
 use bus::weigh;
 use chain::{Close, Reach, Start};
-use ring::{Ring, Slot};
+use ring::{ERR, OWN, Ring, Slot};
 
-// Bits of a transmit status.
-const OWN: u8 = 0x80;
-
-const ERR: u8 = 0x40;
-
+// Bits that only a transmit status has.
 const ADD_FCS: u8 = 0x20;
 
 const MORE: u16 = 0x10;
