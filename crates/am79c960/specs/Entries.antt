@@ -4,6 +4,9 @@ use Rattle.std.specs.Prelude.{if◌then◌else◌}
 use Rattle.bus.specs.Bits.{weigh}
 use Rattle.bus.specs.Bus.{Bus, done, Handed, empty_handed, ◌>>=◌}
 use Rattle.transmit.specs.declared.Report.{Report}
+use Rattle.answers.specs.declared.Refusal.TheVariants.{Unsound}
+use Rattle.answers.specs.Refusals.{refusal_number}
+use Rattle.answers.specs.Answers.{answer_number, answer_word, answer_value, answer_length}
 use Rattle.card.specs.declared.Reply.{Reply}
 use Rattle.card.specs.Acts.{resetting, reading, writing}
 use Rattle.card.specs.Arrival.{arriving}
@@ -13,7 +16,8 @@ use Rattle.block.specs.Block.{BYTES, block_of, state_in, opens}
 -- number, word, value, length and line in one number: 8, 8, 16, 16 bits and one
 unfoldable pub packed : Reply → ℕ
 packed r =
-    r.answer.number + 0x100 * r.answer.word + 0x10000 * r.answer.value + 0x100000000 * r.answer.length + weigh r.line 0x1000000000000
+    answer_number r.answer + 0x100 * answer_word r.answer + 0x10000 * answer_value r.answer + 0x100000000 * answer_length r.answer
+    + weigh r.line 0x1000000000000
 
 -- the number handed back, and the block
 pub record Given : Type 0 where
@@ -22,11 +26,11 @@ pub record Given : Type 0 where
 
 -- "State, .. and block keep every byte" of a refused call; else the block is that of the state handed back
 unfoldable pub given : List ℕ → Reply → Given
-given b r = record { result = packed r; block = if eqb r.answer.number 0 then block_of r.card else b }
+given b r = record { result = packed r; block = if eqb (answer_number r.answer) 0 then block_of r.card else b }
 
 -- 9: "nothing but the number", and the line "is reported low"
 unfoldable pub shut : List ℕ → Given
-shut b = record { result = 9; block = b }
+shut b = record { result = refusal_number Unsound; block = b }
 
 -- "Reset alone asks only for the block's length (else 9) and writes a fresh block over any content."
 unfoldable pub reset_entry : List ℕ → Given

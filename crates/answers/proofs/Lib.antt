@@ -1,4 +1,3 @@
 -- The laws by which the proofs of this crate, and of those above it, go.
-pub mod Numbers
-pub mod Rows
+pub mod Tests
 pub mod One

@@ -1,5 +1,5 @@
 -- The definitions that the contracts of this crate cite.
-pub mod Answers
 pub mod Refusals
+pub mod Answers
 pub mod Events
 pub mod Computed

@@ -1,40 +1,15 @@
 // What a call answers: refusals in the table's order, the words, and the events that a walk or a turn leaves in the registers.
-#![tactic(auto)]
+#![tactic(auto, unfolding(crate::specs::Computed::computed))]
 
-ghost use Rattle.std.specs.Prelude.{◌≡◌};
-ghost use Rattle.answers.specs.Answers.{plain, done, sent, refusal};
-ghost use Rattle.answers.specs.Refusals.{read_number, write_number, arrive_number, turn_number};
+ghost use Rattle.std.specs.Prelude.{◌≡◌, [], ◌∷◌};
+ghost use Rattle.answers.specs.Refusals.{refusal_number, ◌refuses_if◌, first, read_tests, write_tests, arrive_tests, turn_tests};
+ghost use Rattle.answers.specs.Answers.{answer_number, answer_word, answer_value, answer_length};
 ghost use Rattle.answers.specs.Events.{sets, sent_bits, arrival_event, turn_event};
 
 use bus::weigh;
 use receive::Ending;
 use registers::{BABL, CERR, MERR, MISS, RINT, RXON, TDMD, TINT, TXON};
 use transmit::Outcome;
-
-// The words of an answer; 0 stands for a refusal.
-pub const DONE: u8 = 1;
-
-pub const OFF: u8 = 2;
-
-pub const RUNT: u8 = 3;
-
-pub const NOT_OURS: u8 = 4;
-
-pub const MISSED: u8 = 5;
-
-pub const RECEIVED: u8 = 6;
-
-pub const CUT: u8 = 7;
-
-pub const MEMORY: u8 = 8;
-
-pub const IDLE: u8 = 9;
-
-pub const UNDERFLOW: u8 = 10;
-
-pub const FAILED: u8 = 11;
-
-pub const SENT: u8 = 12;
 
 // The table's limits.
 pub const MOST_MEMORY: usize = 16777216;
@@ -43,17 +18,41 @@ pub const LONGEST_FRAME: usize = 4095;
 
 pub const MOST_EXTRA: u32 = 7;
 
-pub const LEAST_SLICE: usize = 4100;
+pub const LEAST_SLICE: usize = transmit::ROOM;
 
 pub const LAST_REPORT: u32 = 5;
 
-// What is answered: the table's number or 0, a word or 0, a read's value or 0, the length sent or 0.
-#[derive(Clone, Copy)]
-pub struct Answer {
-    pub number: u8,
-    pub word: u8,
-    pub value: u16,
-    pub length: u16,
+// Why a call is refused, with the table's number.
+#[derive(Clone, Copy, PartialEq, Eq)]
+pub enum Refusal {
+    LargeMemory = 1,
+    LongFrame = 2,
+    ExtraBits = 3,
+    ShortSlice = 4,
+    BadReport = 5,
+    Locked = 6,
+    NoRegister = 7,
+    OnlyReads = 8,
+    Unsound = 9,
+}
+
+// What is answered: a refusal, or a word, with a read's value and with the length sent.
+// No Result of a word and a refusal: document 01 gives every answer its four numbers, and each of the methods below would open it first.
+#[derive(Clone, Copy, PartialEq, Eq)]
+pub enum Answer {
+    Refused(Refusal),
+    Done(u16),
+    Off,
+    Runt,
+    NotOurs,
+    Missed,
+    Received,
+    Cut,
+    Memory,
+    Idle,
+    Underflow,
+    Failed,
+    Sent(u16),
 }
 
 // What a walk or a turn leaves besides memory and a slot: bits of CSR0, a rise of CSR112, and the answer.
@@ -65,128 +64,119 @@ pub struct Event {
     pub answer: Answer,
 }
 
-// An answer that is a word.
-pub fn plain(word: u8) -> Answer
-    ensures { result ≡ plain word }
-{
-    Answer {
-        number: 0,
-        word,
-        value: 0,
-        length: 0,
+impl Refusal {
+    // The table's number, which the C interface hands back.
+    pub fn number(self) -> u8
+        ensures { result ≡ refusal_number self }
+    {
+        self as u8
+    }
+
+    // A test of the table.
+    fn refuses_if(self, found: bool) -> Result<(), Refusal>
+        ensures { result ≡ first (self refuses_if found ∷ []) }
+    {
+        if found { Err(self) } else { Ok(()) }
     }
 }
 
-// The answer of a register call.
-pub fn done(value: u16) -> Answer
-    ensures { result ≡ done value }
-{
-    Answer {
-        number: 0,
-        word: DONE,
-        value,
-        length: 0,
+impl Answer {
+    // The table's number for the C interface, or 0 where nothing is refused.
+    pub fn number(self) -> u8
+        ensures { result ≡ answer_number self }
+    {
+        match self {
+            Answer::Refused(refusal) => refusal.number(),
+            _ => 0,
+        }
+    }
+
+    // The word's number for the C interface, or 0 with a refusal.
+    pub fn word(self) -> u8
+        ensures { result ≡ answer_word self }
+    {
+        match self {
+            Answer::Refused(_) => 0,
+            Answer::Done(_) => 1,
+            Answer::Off => 2,
+            Answer::Runt => 3,
+            Answer::NotOurs => 4,
+            Answer::Missed => 5,
+            Answer::Received => 6,
+            Answer::Cut => 7,
+            Answer::Memory => 8,
+            Answer::Idle => 9,
+            Answer::Underflow => 10,
+            Answer::Failed => 11,
+            Answer::Sent(_) => 12,
+        }
+    }
+
+    // A read's value, or 0.
+    pub fn value(self) -> u16
+        ensures { result ≡ answer_value self }
+    {
+        match self {
+            Answer::Done(value) => value,
+            _ => 0,
+        }
+    }
+
+    // The length sent, or 0.
+    pub fn length(self) -> u16
+        ensures { result ≡ answer_length self }
+    {
+        match self {
+            Answer::Sent(length) => length,
+            _ => 0,
+        }
     }
 }
 
-// The answer of a turn that handed a frame out.
-fn sent(length: u16) -> Answer
-    ensures { result ≡ sent length }
+// The tests of a read. Each flag here and below is what one test finds, with no value beside it.
+pub fn read_tests(sound: bool, nowhere: bool, locked: bool) -> Result<(), Refusal>
+    ensures { result ≡ read_tests sound nowhere locked }
 {
-    Answer {
-        number: 0,
-        word: SENT,
-        value: 0,
-        length,
-    }
-}
-
-// The answer of a call that is refused.
-pub fn refusal(number: u8) -> Answer
-    ensures { result ≡ refusal number }
-{
-    Answer {
-        number,
-        word: 0,
-        value: 0,
-        length: 0,
-    }
-}
-
-// The tests of a read.
-pub fn read_number(sound: bool, nowhere: bool, locked: bool) -> u8
-    ensures { result ≡ read_number sound nowhere locked }
-{
-    if !sound {
-        return 9;
-    }
-    if nowhere {
-        return 7;
-    }
-    if locked {
-        return 6;
-    }
-    0
+    Refusal::Unsound.refuses_if(!sound)?;
+    Refusal::NoRegister.refuses_if(nowhere)?;
+    Refusal::Locked.refuses_if(locked)
 }
 
 // The tests of a write.
-pub fn write_number(sound: bool, size: usize, nowhere: bool, locked: bool, only: bool) -> u8
-    ensures { result ≡ write_number sound size nowhere locked only }
+pub fn write_tests(
+    sound: bool,
+    size: usize,
+    nowhere: bool,
+    locked: bool,
+    only: bool,
+) -> Result<(), Refusal>
+    ensures { result ≡ write_tests sound size nowhere locked only }
 {
-    if !sound {
-        return 9;
-    }
-    if MOST_MEMORY < size {
-        return 1;
-    }
-    if nowhere {
-        return 7;
-    }
-    if locked {
-        return 6;
-    }
-    if only {
-        return 8;
-    }
-    0
+    Refusal::Unsound.refuses_if(!sound)?;
+    Refusal::LargeMemory.refuses_if(MOST_MEMORY < size)?;
+    Refusal::NoRegister.refuses_if(nowhere)?;
+    Refusal::Locked.refuses_if(locked)?;
+    Refusal::OnlyReads.refuses_if(only)
 }
 
 // The tests of an arrival.
-pub fn arrive_number(sound: bool, size: usize, frame: usize, extra: u32) -> u8
-    ensures { result ≡ arrive_number sound size frame extra }
+pub fn arrive_tests(sound: bool, size: usize, frame: usize, extra: u32) -> Result<(), Refusal>
+    ensures { result ≡ arrive_tests sound size frame extra }
 {
-    if !sound {
-        return 9;
-    }
-    if MOST_MEMORY < size {
-        return 1;
-    }
-    if LONGEST_FRAME < frame {
-        return 2;
-    }
-    if MOST_EXTRA < extra {
-        return 3;
-    }
-    0
+    Refusal::Unsound.refuses_if(!sound)?;
+    Refusal::LargeMemory.refuses_if(MOST_MEMORY < size)?;
+    Refusal::LongFrame.refuses_if(LONGEST_FRAME < frame)?;
+    Refusal::ExtraBits.refuses_if(MOST_EXTRA < extra)
 }
 
-// The tests of a turn.
-pub fn turn_number(sound: bool, size: usize, out: usize, report: u32) -> u8
-    ensures { result ≡ turn_number sound size out report }
+// The tests of a turn. The report is a number, as the C interface gives any, and one above 5 is refused.
+pub fn turn_tests(sound: bool, size: usize, out: usize, report: u32) -> Result<(), Refusal>
+    ensures { result ≡ turn_tests sound size out report }
 {
-    if !sound {
-        return 9;
-    }
-    if MOST_MEMORY < size {
-        return 1;
-    }
-    if out < LEAST_SLICE {
-        return 4;
-    }
-    if LAST_REPORT < report {
-        return 5;
-    }
-    0
+    Refusal::Unsound.refuses_if(!sound)?;
+    Refusal::LargeMemory.refuses_if(MOST_MEMORY < size)?;
+    Refusal::ShortSlice.refuses_if(out < LEAST_SLICE)?;
+    Refusal::BadReport.refuses_if(LAST_REPORT < report)
 }
 
 // An event: bits of CSR0 to set and to clear, a rise of CSR112, and the answer.
@@ -202,14 +192,15 @@ fn sets(on: u16, off: u16, missed: u16, answer: Answer) -> Event
 }
 
 // The event of an arrival.
+// No `From<Ending>`: the event of a turn takes a flag too, and the two tables read alike so.
 pub fn arrival_event(ending: Ending) -> Event
     ensures { result ≡ arrival_event ending }
 {
     match ending {
-        Ending::Memory => sets(MERR, RXON + TXON, 0, plain(MEMORY)),
-        Ending::Missed => sets(MISS, 0, 1, plain(MISSED)),
-        Ending::Received => sets(RINT, 0, 0, plain(RECEIVED)),
-        Ending::Cut => sets(RINT, 0, 0, plain(CUT)),
+        Ending::Memory => sets(MERR, RXON + TXON, 0, Answer::Memory),
+        Ending::Missed => sets(MISS, 0, 1, Answer::Missed),
+        Ending::Received => sets(RINT, 0, 0, Answer::Received),
+        Ending::Cut => sets(RINT, 0, 0, Answer::Cut),
     }
 }
 
@@ -225,10 +216,10 @@ pub fn turn_event(noheartbeat: bool, outcome: Outcome) -> Event
     ensures { result ≡ turn_event noheartbeat outcome }
 {
     match outcome {
-        Outcome::Idle => sets(0, TDMD, 0, plain(IDLE)),
-        Outcome::OutOfMemory => sets(MERR, TDMD + RXON + TXON, 0, plain(MEMORY)),
-        Outcome::Underflow => sets(TINT, TDMD + TXON, 0, plain(UNDERFLOW)),
-        Outcome::Failed => sets(TINT, TDMD, 0, plain(FAILED)),
-        Outcome::Sent(n) => sets(sent_bits(noheartbeat, n), TDMD, 0, sent(n)),
+        Outcome::Idle => sets(0, TDMD, 0, Answer::Idle),
+        Outcome::OutOfMemory => sets(MERR, TDMD + RXON + TXON, 0, Answer::Memory),
+        Outcome::Underflow => sets(TINT, TDMD + TXON, 0, Answer::Underflow),
+        Outcome::Failed => sets(TINT, TDMD, 0, Answer::Failed),
+        Outcome::Sent(n) => sets(sent_bits(noheartbeat, n), TDMD, 0, Answer::Sent(n)),
     }
 }

@@ -1,29 +1,28 @@
--- What the tests of a block come to: at each step what is left to test comes to the whole, and a block opens by four tests.
+-- What the tests of a block come to, in the definitions' words, and that a block opens by four tests.
 use mathlib.Core.Path.{◌≡◌, refl, sym, ap, ap₂, ◌∙◌}
-use mathlib.Core.Bool.{Bool, true, false, ◌&&◌, and-true, and_assoc, and-eq-true_iff}
+use mathlib.Core.Bool.{Bool, true, false, ◌&&◌, and_assoc, and-eq-true_iff}
 use mathlib.Core.List.{List, [], ◌∷◌, ◌++◌}
-use Prim.Native.Nat.{ℕ, suc, ◌+◌, ◌*◌, ◌/◌, ◌%◌, ◌≤◌, ◌<◌}
+use Prim.Native.Nat.{ℕ, zero, suc, ◌+◌, ◌-◌, ◌*◌, ◌/◌, ◌%◌, ◌≤◌, ◌<◌}
 use native.Mathlib.Nat.{add-zero}
 use native.Mathlib.Omega.{arith}
 use native.Mathlib.Numerals.{add-one}
-use lib.ListN.{length, get_or, drop, drop_of_length-le}
+use lib.ListN.{length, get_or, take, drop, replicate}
+use lib.Pointwise.{pointwise}
 use lib.Seq.{drop-cons}
 use lib.Dec.{eqb}
-use mir.Syntax.{w8, w16}
+use Rattle.std.specs.Prelude.{if◌then◌else◌, Option, Some, None}
+use Rattle.std.proofs.lemmas.Bool.{cond-true, cond-false, false_from_ne_true}
+use Rattle.std.proofs.lemmas.Option.{cond_some}
+use mir.Syntax.{w8}
 use mir.Val.{Fits}
 use borrow.Author.Tests.{eq-eqb, ne_eqb, eqb-true, eqb-false}
 use Rattle.fcs.specs.Fcs.{right_fcs}
 use Rattle.bus.specs.Words.{joined, bytes_of, words_at}
 use Rattle.card.specs.declared.Card.{Card}
-use Rattle.card.specs.State.{WORDS, state_words, state_of}
+use Rattle.card.specs.State.{WORDS, state_words}
 use Rattle.card.specs.Sound.{sound}
-use Rattle.block.specs.Block.{BYTES, CHECKED, word_bytes, unused, body_of, state_in, holds, opens}
-use Rattle.block.proofs.Places.{rest, rest_all, rest_more, rest_none, length_state}
-
--- the state of the words that stand there
-pub state_said : (b ws : List ℕ) (c : Card) → ws ≡ words_at b 0 WORDS → c ≡ state_of ws → c ≡ state_in b
-unfolding state_in
-state_said b ws c e f = f ∙ ap state_of e
+use Rattle.block.specs.Block.{BYTES, CHECKED, word_bytes, unused, body_of, state_in, holds, opens, opened}
+use Rattle.block.proofs.Places.{length_state}
 
 -- two tests that come to one
 two_are : (p q t h : Bool) → (p ≡ true → q ≡ true → t ≡ true) → (p ≡ false → t ≡ false) → (q ≡ false → t ≡ false)
@@ -49,39 +48,36 @@ word_there b i w bs lx ly lw =
     let m : i + 2 ≡ suc (i + 1) = omega arith in
     rw (m, ← add-one i) (parts (get_or b i 0) (get_or b (i + 1) 0) w (holds b (suc (i + 1)) bs) lx ly lw)
 
--- once i of the words are tested: one more, or no more
-module _ (b ws : List ℕ) (t r : Bool) (i : ℕ) (p : (t && holds b (2 * i) (word_bytes (drop i ws))) ≡ r) where
-  pub head_goes : (w : ℕ) → i < length ws → w ≡ joined (get_or b (2 * i) 0) (get_or b (2 * i + 1) 0)
-      → Fits w8 (get_or b (2 * i) 0) → Fits w8 (get_or b (2 * i + 1) 0) → Fits w16 (get_or ws i 0)
-      → (t && eqb w (get_or ws i 0) && holds b (2 * (i + 1)) (word_bytes (drop (i + 1) ws))) ≡ r
-  unfolding word_bytes
-  head_goes w h e lx ly lw =
-      let n : 2 * (i + 1) ≡ 2 * i + 2 = omega arith in
-      and_assoc t (eqb w (get_or ws i 0)) (holds b (2 * (i + 1)) (word_bytes (drop (i + 1) ws)))
-      ∙ ap (◌&&◌ t)
-      (rw (n, add-one i, e) (sym (word_there b (2 * i) (get_or ws i 0) (word_bytes (drop (suc i) ws)) lx.fits ly.fits lw.fits))
-      ∙ sym (ap (λ (l : List ℕ). holds b (2 * i) (word_bytes l)) (drop-cons ws i 0 h)))
-      ∙ p
+-- the words that stand there are these
+head_at : (k i : ℕ) (b ws : List ℕ) → length ws ≡ k → ((j : ℕ) → Fits w8 (get_or b j 0)) → ((j : ℕ) → get_or ws j 0 < 65536)
+    → pointwise eqb (words_at b i k) ws ≡ holds b i (word_bytes ws)
+unfolding words_at word_bytes holds
+head_at zero i b [] e f g = refl
+head_at zero i b (w ∷ ws) e f g = absurd (omega arith)
+head_at (suc k) i b [] e f g = absurd (omega arith)
+head_at (suc k) i b (w ∷ ws) e f g =
+    let one : suc i ≡ i + 1 = omega arith in
+    let two : suc (i + 1) ≡ i + 2 = omega arith in
+    rw (one, two, head_at k (i + 2) b ws (omega arith) f (λ j. g (suc j)))
+    (sym (word_there b i w (word_bytes ws) (f i).fits (f (i + 1)).fits (g 0)))
 
-  pub head_ends : length ws ≤ i → t ≡ r
-  unfolding word_bytes holds
-  head_ends h =
-      sym (ap (λ (l : List ℕ). t && holds b (2 * i) (word_bytes l)) (drop_of_length-le ws h) ∙ and-true t) ∙ p
+pub head_is : (b ws xs : List ℕ) (r : Bool) → r ≡ pointwise eqb xs ws → xs ≡ words_at b 0 WORDS → length ws ≡ WORDS → ((j : ℕ) → Fits w8 (get_or b j 0))
+    → ((j : ℕ) → get_or ws j 0 < 65536) → r ≡ holds b 0 (word_bytes ws)
+head_is b ws xs r e x l f g = e ∙ ap (λ (l : List ℕ). pointwise eqb l ws) x ∙ head_at WORDS 0 b ws l f g
 
--- once the bytes before place i are tested: one more, or no more
-pub rest_starts : (b : List ℕ) → holds b (2 * WORDS) (rest (2 * WORDS)) ≡ holds b (2 * WORDS) unused
-rest_starts b = ap (holds b (2 * WORDS)) rest_all
+-- bytes that are there, and the unused ones
+same_at : (xs b : List ℕ) (i : ℕ) → i + length xs ≤ length b → pointwise eqb (take (length xs) (drop i b)) xs ≡ holds b i xs
+unfolding holds
+same_at [] b i h = refl
+same_at (x ∷ xs) b i h =
+    let here : i < length b = omega arith in
+    ap (λ (l : List ℕ). pointwise eqb (take (suc (length xs)) l) (x ∷ xs)) (drop-cons b i 0 here)
+    ∙ ap (λ (t : Bool). eqb (get_or b i 0) x && t) (same_at xs b (suc i) (omega arith))
 
-module _ (b : List ℕ) (t r : Bool) (i : ℕ) (p : (t && holds b i (rest i)) ≡ r) where
-  pub rest_goes : i < CHECKED → (t && eqb (get_or b i 0) 0 && holds b (i + 1) (rest (i + 1))) ≡ r
-  unfolding holds
-  rest_goes h =
-      and_assoc t (eqb (get_or b i 0) 0) (holds b (i + 1) (rest (i + 1)))
-      ∙ rw (add-one i) (sym (ap (λ (l : List ℕ). t && holds b i l) (rest_more i h))) ∙ p
-
-  pub rest_ends : CHECKED ≤ i → t ≡ r
-  unfolding holds
-  rest_ends h = sym (ap (λ (l : List ℕ). t && holds b i l) (rest_none i h) ∙ and-true t) ∙ p
+pub rest_is : (b : List ℕ) (r : Bool) → r ≡ pointwise eqb (take (CHECKED - 2 * WORDS) (drop (2 * WORDS) b)) (replicate (CHECKED - 2 * WORDS) 0) → CHECKED ≤ length b
+    → r ≡ holds b (2 * WORDS) unused
+unfolding unused
+rest_is b r e h = e ∙ same_at unused b (2 * WORDS) (omega arith)
 
 -- bytes that are there before others
 holds_then : (xs ys b : List ℕ) (i : ℕ) → holds b i (xs ++ ys) ≡ (holds b i xs && holds b (i + length xs) ys)
@@ -137,3 +133,23 @@ module _ (b : List ℕ) (o : Bool) (e : o ≡ opens b) (t : o ≡ true) where
 
   pub open_enough : 2 * WORDS ≤ length b
   open_enough = omega (arith, open_long)
+
+-- `opened` hands back the state of a block that opens, and none of any other
+module _ (b : List ℕ) (o : Option Card) (e : o ≡ opened b) where
+  some_opens : (c : Card) → o ≡ Some c → (opens b ≡ true) × (state_in b ≡ c)
+  unfolding opened
+  some_opens c y = cond_some (opens b) (state_in b) c (sym e ∙ y)
+
+  pub some_long : (c : Card) → o ≡ Some c → length b ≡ BYTES
+  some_long c y = opened_long b (some_opens c y).0
+
+  -- .. so what asks whether a block opens goes by its answer
+  module _ {A : Type 0} where
+    pub goes_some : (f : Card → A) (x : A) (c : Card) → o ≡ Some c → (if opens b then f (state_in b) else x) ≡ f c
+    goes_some f x c y = cond-true (opens b) (f (state_in b)) x (some_opens c y).0 ∙ ap f (some_opens c y).1
+
+    pub goes_none : (x y : A) → ((c : Card) → o ≡ Some c → ⊥) → (if opens b then x else y) ≡ y
+    unfolding opened
+    goes_none x y n =
+        cond-false (opens b) x y
+        (false_from_ne_true (opens b) (λ t. n (state_in b) (e ∙ cond-true (opens b) (Some (state_in b)) None t)))

@@ -1,5 +1,6 @@
 -- The state block: "a lent block of 512 bytes: bytes 508 to 511 are the FCS of the first 508, unused bytes are zero".
 use Rattle.std.specs.Prelude.{ℕ, suc, ◌-◌, ◌*◌, Bool, true, ◌&&◌, List, [], ◌∷◌, ◌++◌, length, get_or, replicate, eqb}
+use Rattle.std.specs.Prelude.{if◌then◌else◌, Option, Some, None}
 use Rattle.fcs.specs.Fcs.{fcs_of, right_fcs}
 use Rattle.bus.specs.Words.{bytes_of, words_at}
 use Rattle.card.specs.declared.Card.{Card}
@@ -42,3 +43,7 @@ holds b i (x ∷ xs) = eqb (get_or b i 0) x && holds b (suc i) xs
 -- 9: "block not 512 bytes, check wrong, or not the block of a sound state"
 unfoldable pub opens : List ℕ → Bool
 opens b = eqb (length b) BYTES && right_fcs b && holds b 0 (body_of (state_in b)) && sound (state_in b)
+
+-- the state of a block that opens, and none of any other
+unfoldable pub opened : List ℕ → Option Card
+opened b = if opens b then Some (state_in b) else None

@@ -90,18 +90,9 @@ run_words (suc k) a m =
     after (words (suc (suc a)) k) (λ ws. done (joined (get_or m a 0) (get_or m (suc a) 0) ∷ ws)) m m (words_at m (suc (suc a)) k)
     (run_words k (suc (suc a)) m)
 
--- storing one byte, then those after it
-pub run_byte : (a b : ℕ) (bs m : List ℕ) → run (bytes a (b ∷ bs)) m ≡ run (bytes (suc a) bs) (set m a b)
-unfolding run bytes
-run_byte a b bs m = refl
-
 -- a program leaves as much memory as it found
 run_length : {A : Type 0} (p : Bus A) (m : List ℕ) → length (run p m).memory ≡ length m
 unfolding run
 run_length (done a) m = refl
 run_length (load a k) m = run_length (k (get_or m a 0)) m
 run_length (store a b p) m = run_length p (set m a b) ∙ length-set m a b
-
-pub same_length : {A : Type 0} (p : Bus A) (m m' : List ℕ) (a : A)
-    → run p m ≡ record { answer = a; memory = m' } → length m' ≡ length m
-same_length p m m' a e = sym (ap (λ (x : Ended _). length x.memory) e) ∙ run_length p m

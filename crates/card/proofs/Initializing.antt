@@ -1,41 +1,21 @@
 -- The ways of a write to CSR0.
 use mathlib.Core.Path.{◌≡◌, ap, subst, ◌∙◌}
-use mathlib.Core.Bool.{true, false}
+use mathlib.Core.Bool.{Bool, true, false}
 use mathlib.Core.List.{List}
-use Prim.Native.Nat.{ℕ, ◌+◌, ◌/◌, ◌%◌, ◌≤◌, ◌<◌}
-use lib.ListN.{length, get_or}
+use Prim.Native.Nat.{ℕ, ◌+◌, ◌≤◌, ◌<◌}
+use lib.ListN.{length}
 use borrow.Author.Tests.{le-leb, lt-leb}
+use Rattle.bus.specs.Bits.{bit}
 use Rattle.bus.specs.Words.{words_at}
 use Rattle.bus.specs.Bus.{run, done, words}
-use Rattle.bus.proofs.Run.{run_gives, way_true, way_false, way_eq, way_ne, run_words, after}
-use Rattle.ring.specs.declared.Ring.{Ring}
-use Rattle.ring.specs.Loading.{from_words}
+use Rattle.bus.proofs.Run.{run_gives, way_true, way_false, way_no, run_words, after}
 use Rattle.registers.specs.declared.Csr0.{Csr0}
-use Rattle.registers.specs.Bits.{IDON, STOP, INIT}
-use Rattle.registers.specs.Csr0.{stopped, changed}
+use Rattle.registers.specs.Bits.{STOP}
 use Rattle.registers.specs.Writing.{cleared, finished}
 use Rattle.card.specs.declared.Card.{Card}
 use Rattle.card.specs.declared.Tried.{Tried}
-use Rattle.card.specs.State.{state_of, with, with_csr0}
-use Rattle.card.specs.Initialization.{block_address, loaded_from, succeeded, failed, tried, initialization, init_if_asked, write_csr0}
-
--- what an initialization loads
-pub loads : (c : Card) (ws a f : List ℕ) (s : Csr0) (rx tx : Ring) → s ≡ changed c.csr0 (IDON + INIT) STOP
-    → a ≡ (loaded_from ws).address → f ≡ (loaded_from ws).filter → rx ≡ from_words (get_or ws 8 0) (get_or ws 9 0) → tx ≡ from_words (get_or ws 10 0) (get_or ws 11 0)
-    → record {
-      csr0 = s;
-      written = c.written;
-      missed = c.missed;
-      initialized = true;
-      mode = get_or ws 0 0;
-      address = a;
-      filter = f;
-      receive = rx;
-      transmit = tx;
-    }
-    ≡ succeeded c ws
-unfolding succeeded with loaded_from state_of
-loads c ws a f s rx tx es ea ef er et = rw (es, ea, ef, er, et)
+use Rattle.card.specs.State.{with_csr0}
+use Rattle.card.specs.Initialization.{block_address, succeeded, failed, tried, initialization, init_if_asked, write_csr0}
 
 module _ (c : Card) (m : List ℕ) where
   -- a block that isn't wholly inside
@@ -56,19 +36,13 @@ module _ (c : Card) (m : List ℕ) where
       ∙ run_gives _ _ m (ap (λ (x : Card). record { card = x; ready = true }) (f ∙ ap (succeeded c) w))))
 
   module _ (v : ℕ) where
-    -- STOP
-    pub write_stops : (s : Csr0) (d : Card) → v / STOP % 2 ≡ 1 → s ≡ stopped → d ≡ with_csr0 c s
-        → run (write_csr0 c (length m) v) m ≡ record { answer = d; memory = m }
-    unfolding write_csr0
-    write_stops s d t e f = way_eq _ _ m _ _ _ t (run_gives _ _ m (f ∙ ap (with_csr0 c) e))
-
     -- no STOP
-    pub write_goes : (s s' : Csr0) (c' d : Card) (t : Tried) → (v / STOP % 2 ≡ 1 → ⊥) → s ≡ cleared c.csr0 v → c' ≡ with_csr0 c s
+    pub write_goes : (s s' : Csr0) (c' d : Card) (t : Tried) (o : Bool) → o ≡ bit v STOP → o ≡ false → s ≡ cleared c.csr0 v → c' ≡ with_csr0 c s
         → run (init_if_asked c' (length m) v) m ≡ record { answer = t; memory = m }
         → s' ≡ finished t.card.csr0 t.card.mode t.ready v → d ≡ with_csr0 t.card s'
         → run (write_csr0 c (length m) v) m ≡ record { answer = d; memory = m }
     unfolding write_csr0
-    write_goes s s' c' d t b es ec r ef ed =
-        way_ne _ _ m _ _ _ b
+    write_goes s s' c' d t o eo b es ec r ef ed =
+        way_no _ _ m _ o (bit v STOP) eo b
         (after _ _ m m t (subst (λ (x : Card). run (init_if_asked x (length m) v) m ≡ record { answer = t; memory = m }) (ec ∙ ap (with_csr0 c) es) r)
         ∙ run_gives _ _ m (ed ∙ ap (with_csr0 t.card) ef))

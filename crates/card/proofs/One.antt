@@ -2,8 +2,8 @@
 use mathlib.Core.List.{List}
 use Prim.Native.Nat.{ℕ}
 use Rattle.bus.proofs.Only.{Only, OnlyWith, equation, ended, left}
-use Rattle.card.proofs.Card.state_words.Reads as state_words
-use Rattle.card.proofs.Card.state_of.Reads as state_of
+use Rattle.card.proofs.state.ArrayU16WORDSFromCard.from.Reads as state_words
+use Rattle.card.proofs.state.CardFromArrayU16WORDS.from.Reads as state_of
 use Rattle.card.proofs.Card.fresh.Reads as fresh
 use Rattle.card.proofs.Card.is_sound.Reads as is_sound
 use Rattle.card.proofs.Card.read.Reads as read

@@ -3,8 +3,8 @@ use Rattle.std.specs.Prelude.{ℕ, eqb}
 use Rattle.std.specs.Prelude.{if◌then◌else◌}
 use Rattle.bus.specs.Bus.{Bus, done, ◌>>=◌}
 use Rattle.registers.specs.Table.{RDP, RAP, RESET, SELECT, no_register, locked, only_reads, keep}
-use Rattle.answers.specs.Answers.{done as does}
-use Rattle.answers.specs.Refusals.{read_number, write_number, unless}
+use Rattle.answers.specs.declared.Answer.TheVariants.{Done}
+use Rattle.answers.specs.Refusals.{Tested, read_tests, write_tests, unless}
 use Rattle.card.specs.declared.Card.{Card}
 use Rattle.card.specs.declared.Reply.{Reply}
 use Rattle.card.specs.State.{fresh, with_written}
@@ -15,18 +15,18 @@ use Rattle.card.specs.Initialization.{write_csr0}
 
 -- reset
 unfoldable pub resetting : Reply
-resetting = replied fresh (does 0)
+resetting = replied fresh (Done 0)
 
 -- "A read at 14h resets the card and gives 0"; "RAP .. selects the CSR behind RDP"
 unfoldable pub read_at : Card → ℕ → Reply
 read_at c offset =
     if eqb offset RESET
-    then replied fresh (does 0)
-    else if eqb offset RAP then replied c (does c.written.rap) else replied c (does (register_word c c.written.rap))
+    then replied fresh (Done 0)
+    else if eqb offset RAP then replied c (Done c.written.rap) else replied c (Done (register_word c c.written.rap))
 
--- the number of a read that is refused, or 0
-abbrev pub read_refusal : Card → ℕ → ℕ
-read_refusal c offset = read_number (sound c) (no_register c.written.rap offset) (locked c.csr0.stop c.written.rap offset)
+-- whether a read is refused
+abbrev pub read_refusal : Card → ℕ → Tested
+read_refusal c offset = read_tests (sound c) (no_register c.written.rap offset) (locked c.csr0.stop c.written.rap offset)
 
 -- a read
 unfoldable pub reading : Card → ℕ → Reply
@@ -44,12 +44,12 @@ write_at c n offset v =
     then write_register c n v
     else if eqb offset RAP then done (with_written c (keep c.written SELECT v)) else done c
 
--- the number of a write that is refused, or 0
-abbrev pub write_refusal : Card → ℕ → ℕ → ℕ
+-- whether a write is refused
+abbrev pub write_refusal : Card → ℕ → ℕ → Tested
 write_refusal c n offset =
-    write_number (sound c) n (no_register c.written.rap offset) (locked c.csr0.stop c.written.rap offset) (only_reads c.written.rap offset)
+    write_tests (sound c) n (no_register c.written.rap offset) (locked c.csr0.stop c.written.rap offset) (only_reads c.written.rap offset)
 
 -- a write, in a memory of n bytes
 unfoldable pub writing : Card → ℕ → ℕ → ℕ → Bus Reply
 writing c n offset v =
-    unless (write_refusal c n offset) (λ number. done (refused c number)) (write_at c n offset v >>= (λ d. done (replied d (does 0))))
+    unless (write_refusal c n offset) (λ r. done (refused c r)) (write_at c n offset v >>= (λ d. done (replied d (Done 0))))

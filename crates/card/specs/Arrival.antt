@@ -12,8 +12,8 @@ use Rattle.receive.specs.declared.Ending.{Ending}
 use Rattle.receive.specs.Status.{end_status}
 use Rattle.receive.specs.Walk.{walk}
 use Rattle.answers.specs.declared.Event.{Event}
-use Rattle.answers.specs.Answers.{OFF, RUNT, NOT_OURS, plain}
-use Rattle.answers.specs.Refusals.{arrive_number, unless}
+use Rattle.answers.specs.declared.Answer.TheVariants.{Off, Runt, NotOurs}
+use Rattle.answers.specs.Refusals.{Tested, arrive_tests, unless}
 use Rattle.answers.specs.Events.{arrival_event}
 use Rattle.card.specs.declared.Card.{Card}
 use Rattle.card.specs.declared.Reply.{Reply}
@@ -44,15 +44,15 @@ arrival c n f extra =
     if c.csr0.rxon
     then
     (if ltb (length f) 64
-    then done (replied c (plain RUNT))
-    else (if is_ours c f then take_in c n f extra else done (replied c (plain NOT_OURS))))
-    else done (replied c (plain OFF))
+    then done (replied c Runt)
+    else (if is_ours c f then take_in c n f extra else done (replied c NotOurs)))
+    else done (replied c Off)
 
--- the number of an arrival that is refused, or 0
-abbrev pub arrive_refusal : Card → ℕ → ℕ → ℕ → ℕ
-arrive_refusal c n frame extra = arrive_number (sound c) n frame extra
+-- whether an arrival is refused
+abbrev pub arrive_refusal : Card → ℕ → ℕ → ℕ → Tested
+arrive_refusal c n frame extra = arrive_tests (sound c) n frame extra
 
 -- an arrival
 unfoldable pub arriving : Card → ℕ → List ℕ → ℕ → Bus Reply
 arriving c n f extra =
-    unless (arrive_refusal c n (length f) extra) (λ number. done (refused c number)) (arrival c n f extra)
+    unless (arrive_refusal c n (length f) extra) (λ r. done (refused c r)) (arrival c n f extra)

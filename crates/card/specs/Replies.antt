@@ -1,7 +1,9 @@
 -- What a call hands back: the state, the answer and the level of the interrupt line.
-use Rattle.std.specs.Prelude.{ℕ, not, ◌&&◌, eqb}
+use Rattle.std.specs.Prelude.{not, ◌&&◌, eqb}
+use Rattle.answers.specs.declared.Refusal.{Refusal}
 use Rattle.answers.specs.declared.Answer.{Answer}
-use Rattle.answers.specs.Answers.{refusal}
+use Rattle.answers.specs.declared.Answer.TheVariants.{Refused}
+use Rattle.answers.specs.Refusals.{refusal_number}
 use Rattle.card.specs.declared.Card.{Card}
 use Rattle.card.specs.declared.Reply.{Reply}
 use Rattle.card.specs.State.{line}
@@ -11,5 +13,5 @@ unfoldable pub replied : Card → Answer → Reply
 replied c a = record { card = c; answer = a; line = line c }
 
 -- a call that is refused: "The line's level is that of the kept state; with 9 it is reported low."
-unfoldable pub refused : Card → ℕ → Reply
-refused c n = record { card = c; answer = refusal n; line = not (eqb n 9) && line c }
+unfoldable pub refused : Card → Refusal → Reply
+refused c r = record { card = c; answer = Refused r; line = not (eqb (refusal_number r) 9) && line c }

@@ -7,8 +7,8 @@ use Rattle.ring.specs.Slots.{moved}
 use Rattle.transmit.specs.declared.Outcome.{Outcome}
 use Rattle.transmit.specs.declared.Report.{Report}
 use Rattle.transmit.specs.Turn.{turn}
-use Rattle.answers.specs.Answers.{OFF, plain}
-use Rattle.answers.specs.Refusals.{turn_number, unless}
+use Rattle.answers.specs.declared.Answer.TheVariants.{Off}
+use Rattle.answers.specs.Refusals.{Tested, turn_tests, unless}
 use Rattle.answers.specs.Events.{turn_event}
 use Rattle.card.specs.declared.Card.{Card}
 use Rattle.card.specs.declared.Reply.{Reply}
@@ -29,13 +29,13 @@ take_turn c n w =
 
 -- "TXON clear: "off"."
 unfoldable pub turn_if_on : Card → ℕ → Report → Bus (Handed Reply)
-turn_if_on c n w = if c.csr0.txon then take_turn c n w else done (empty_handed (replied c (plain OFF)))
+turn_if_on c n w = if c.csr0.txon then take_turn c n w else done (empty_handed (replied c Off))
 
--- the number of a turn that is refused, or 0
-abbrev pub turn_refusal : Card → ℕ → ℕ → ℕ → ℕ
-turn_refusal c n out report = turn_number (sound c) n out report
+-- whether a turn is refused
+abbrev pub turn_refusal : Card → ℕ → ℕ → ℕ → Tested
+turn_refusal c n out report = turn_tests (sound c) n out report
 
 -- a turn, with an outgoing slice of `out` bytes
 unfoldable pub turning : Card → ℕ → ℕ → Report → Bus (Handed Reply)
 turning c n out w =
-    unless (turn_refusal c n out w.result) (λ number. done (empty_handed (refused c number))) (turn_if_on c n w)
+    unless (turn_refusal c n out w.result) (λ r. done (empty_handed (refused c r))) (turn_if_on c n w)

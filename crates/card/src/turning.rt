@@ -1,10 +1,12 @@
 // The act "transmit turn".
+#![tactic(auto, unfolding(crate::specs::Computed::computed_turning, answers::specs::Refusals::unless), using(crate::proofs::Answering::leaves_empty, answers::proofs::Tests::slice_long))]
+
 ghost use Rattle.std.specs.Prelude.{◌≡◌, ◌≤◌, length};
 ghost use Rattle.bus.specs.Bus.{run, leaves};
 ghost use Rattle.card.specs.Turning.{turned, take_turn, turn_if_on, turn_refusal, turning};
 
 use crate::{Card, Reply};
-use answers::OFF;
+use answers::{Answer, Refusal};
 use ring::Slot;
 use transmit::{Outcome, Report};
 
@@ -14,23 +16,18 @@ impl Card {
         ensures { result ≡ turned self noheartbeat slot outcome }
     {
         let event = answers::turn_event(noheartbeat, outcome);
-        let answer = event.answer;
-        let ring = self.transmit;
-        let receive = self.receive;
-        self.happened(event, receive, ring.moved(slot))
-            .replied(answer)
+        self.happened(event, self.receive, self.transmit.moved(slot))
+            .replied(event.answer)
     }
 
     // A turn on the ring.
+    // The slice's length is asked here and below as `transmit::turn` asks it: the slice may be longer, so it is no array.
     fn take_turn(self, memory: &mut [u8], out: &mut [u8], report: Report) -> Reply
         requires { 4100 ≤ length out.old }
         ensures { leaves (run (take_turn self (length memory.old) report) memory.old) out.old ≡ record { answer = result; memory = memory.new; out = out.new } }
     {
-        let ring = self.transmit;
-        let turned = transmit::turn(memory, ring, self.mode, report, out);
-        let slot = turned.slot;
-        let outcome = turned.outcome;
-        self.turned(report.noheartbeat, slot, outcome)
+        let turned = transmit::turn(memory, self.transmit, self.mode, report, out);
+        self.turned(report.noheartbeat, turned.slot, turned.outcome)
     }
 
     // A turn that nothing refuses.
@@ -38,27 +35,26 @@ impl Card {
         requires { 4100 ≤ length out.old }
         ensures { leaves (run (turn_if_on self (length memory.old) report) memory.old) out.old ≡ record { answer = result; memory = memory.new; out = out.new } }
     {
-        if self.csr0.txon {
-            return self.take_turn(memory, out, report);
+        if !self.csr0.txon {
+            return self.replied(Answer::Off);
         }
-        self.replied(answers::plain(OFF))
+        self.take_turn(memory, out, report)
     }
 
-    // The number of a turn that is refused, or 0.
-    fn turn_refusal(self, size: usize, out: usize, report: u32) -> u8
+    // Whether a turn is refused, by the number of the report as the C interface gives it.
+    fn turn_refusal(self, size: usize, out: usize, report: u32) -> Result<(), Refusal>
         ensures { result ≡ turn_refusal self size out report }
     {
-        answers::turn_number(self.is_sound(), size, out, report)
+        answers::turn_tests(self.is_sound(), size, out, report)
     }
 
     // The act "transmit turn".
     pub fn turn(self, memory: &mut [u8], out: &mut [u8], report: Report) -> Reply
         ensures { leaves (run (turning self (length memory.old) (length out.old) report) memory.old) out.old ≡ record { answer = result; memory = memory.new; out = out.new } }
     {
-        let number = self.turn_refusal(memory.len(), out.len(), report.result);
-        if number == 0 {
-            return self.turn_if_on(memory, out, report);
+        match self.turn_refusal(memory.len(), out.len(), report.result) {
+            Ok(()) => self.turn_if_on(memory, out, report),
+            Err(refusal) => self.refused(refusal),
         }
-        self.refused(number)
     }
 }

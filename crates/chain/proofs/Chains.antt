@@ -1,5 +1,5 @@
 -- The ways of reading a chain.
-use mathlib.Core.Path.{◌≡◌, refl, sym, ap, ◌∙◌}
+use mathlib.Core.Path.{◌≡◌, refl, sym, ap, subst, ◌∙◌}
 use mathlib.Core.List.{List}
 use mathlib.Core.Bool.{Bool, true, false}
 use Prim.Native.Nat.{ℕ, zero, suc, ◌+◌, ◌-◌, ◌/◌, ◌%◌, ◌≤◌, ◌<◌}
@@ -9,6 +9,8 @@ use lib.ListN.{length}
 use lib.Dec.{ltb}
 use borrow.Author.Tests.{eq-eqb, ne_eqb, ltb-false}
 use Rattle.std.specs.Prelude.{if◌then◌else◌}
+use Rattle.std.specs.ControlFlow.{MatchControlFlow}
+use Rattle.std.specs.declared.ops.ControlFlow.TheVariants.{Continue, Break}
 use Rattle.bus.specs.Bits.{bit}
 use Rattle.bus.specs.Words.{part}
 use Rattle.bus.specs.Bus.{run, Ended, done, ◌>>=◌}
@@ -25,39 +27,38 @@ use Rattle.ring.proofs.Finding.{found, run_look, look_finds, found_is}
 use Rattle.chain.specs.declared.Reach.{Reach}
 use Rattle.chain.specs.declared.Close.{Close}
 use Rattle.chain.specs.declared.Close.TheVariants.{Whole, Memory, Short, Long}
-use Rattle.chain.specs.declared.Chain.{Chain}
-use Rattle.chain.specs.declared.Chain.TheVariants.{Open, Over}
-use Rattle.chain.specs.Inner.Bounds.{Counted, Within, Small}
-use Rattle.chain.specs.Chain.{further, grow, closed, link, links, read_chain}
+use Rattle.chain.specs.declared.Closed.{Closed}
+use Rattle.chain.specs.Inner.Bounds.{Counted, Within}
+use Rattle.chain.specs.Chain.{Chain, over, further, grow, closed, link, links, read_chain}
 
 -- the ways that a chain grows by a descriptor
-module _ (n : ℕ) (ring : Ring) (d : Descriptor) (r : Reach) where
-  pub grow_outside : n < d.address + d.count → Over Memory r ≡ grow n ring d r
+module _ (n : ℕ) (ring : Ring) (d : Descriptor) (r : Reach) (g : Chain) where
+  pub grow_outside : n < d.address + d.count → g ≡ over Memory r → g ≡ grow n ring d r
   unfolding grow
-  grow_outside h = if_lt n (d.address + d.count) (Over Memory r) (Over Memory r) _ h refl
+  grow_outside h e = if_lt n (d.address + d.count) g (over Memory r) _ h e
 
   module _ (j : Slot) (inside : d.address + d.count ≤ n) (ej : j ≡ next ring r.slot) where
     reach : record { slot = j; slots = r.slots + 1; total = r.total + d.count } ≡ further ring d r
     unfolding further
     reach = rw ej
 
-    pub grow_long : 4096 < r.total + d.count → Over Long (record { slot = j; slots = r.slots + 1; total = r.total + d.count }) ≡ grow n ring d r
+    pub grow_long : 4096 < r.total + d.count → g ≡ over Long (record { slot = j; slots = r.slots + 1; total = r.total + d.count }) → g ≡ grow n ring d r
     unfolding grow
-    grow_long h = if_ge n (d.address + d.count) _ _ _ inside (if_lt 4096 (r.total + d.count) _ _ _ h (ap (Over Long) reach))
+    grow_long h e = if_ge n (d.address + d.count) _ _ _ inside (if_lt 4096 (r.total + d.count) _ _ _ h (e ∙ ap (over Long) reach))
 
     module _ (h : r.total + d.count ≤ 4096) where
-      pub grow_whole : d.status / 1 % 2 ≡ 1 → Over Whole (record { slot = j; slots = r.slots + 1; total = r.total + d.count }) ≡ grow n ring d r
+      pub grow_whole : d.status / 1 % 2 ≡ 1 → g ≡ over Whole (record { slot = j; slots = r.slots + 1; total = r.total + d.count }) → g ≡ grow n ring d r
       unfolding grow
-      grow_whole e =
+      grow_whole b e =
           if_ge n (d.address + d.count) _ _ _ inside
-          (if_ge 4096 (r.total + d.count) _ _ _ h (if_true _ _ _ _ (eq-eqb (d.status / 1 % 2) 1 e) (ap (Over Whole) reach)))
+          (if_ge 4096 (r.total + d.count) _ _ _ h (if_true _ _ _ _ (eq-eqb (d.status / 1 % 2) 1 b) (e ∙ ap (over Whole) reach)))
 
-      pub grow_open : (d.status / 1 % 2 ≡ 1 → ⊥) → Open (record { slot = j; slots = r.slots + 1; total = r.total + d.count }) ≡ grow n ring d r
+      pub grow_open : (d.status / 1 % 2 ≡ 1 → ⊥) → g ≡ Continue (record { slot = j; slots = r.slots + 1; total = r.total + d.count }) → g ≡ grow n ring d r
       unfolding grow
-      grow_open e =
+      grow_open b e =
           if_ge n (d.address + d.count) _ _ _ inside
           (if_ge 4096 (r.total + d.count) _ _ _ h
-          (if_false _ _ _ _ (ne_eqb (d.status / 1 % 2) 1 e) (ap Open reach)))
+          (if_false _ _ _ _ (ne_eqb (d.status / 1 % 2) 1 b) (e ∙ ap Continue reach)))
 
 -- a descriptor that is found has a byte count of 1 to 4,096
 pub found_counted : (n : ℕ) (ring : Ring) (i : Slot) (m : List ℕ) (d : Descriptor) → found n ring i m ≡ Owned d → Counted d
@@ -67,12 +68,12 @@ found_counted n ring i m d e =
     record { some = omega arith; most = omega arith }
 
 -- what is so of each way that a chain can grow is so of the chain that grew
-module _ (n : ℕ) (ring : Ring) (d : Descriptor) (r : Reach) (P : Chain → Type 0) (memory : P (Over Memory r))
-    (long : d.address + d.count ≤ n → P (Over Long (further ring d r)))
-    (whole : d.address + d.count ≤ n → r.total + d.count ≤ 4096 → P (Over Whole (further ring d r)))
-    (further-on : d.address + d.count ≤ n → r.total + d.count ≤ 4096 → P (Open (further ring d r))) where
+module _ (n : ℕ) (ring : Ring) (d : Descriptor) (r : Reach) (P : Chain → Type 0) (memory : P (over Memory r))
+    (long : d.address + d.count ≤ n → P (over Long (further ring d r)))
+    (whole : d.address + d.count ≤ n → r.total + d.count ≤ 4096 → P (over Whole (further ring d r)))
+    (further-on : d.address + d.count ≤ n → r.total + d.count ≤ 4096 → P (Continue (further ring d r))) where
   ways : (o l e : Bool) → (o ≡ false → d.address + d.count ≤ n) → (l ≡ false → r.total + d.count ≤ 4096)
-      → P (if o then Over Memory r else if l then Over Long (further ring d r) else if e then Over Whole (further ring d r) else Open (further ring d r))
+      → P (if o then over Memory r else if l then over Long (further ring d r) else if e then over Whole (further ring d r) else Continue (further ring d r))
   ways true l e i t = memory
   ways false true e i t = long (i refl)
   ways false false true i t = whole (i refl) (t refl)
@@ -84,43 +85,45 @@ module _ (n : ℕ) (ring : Ring) (d : Descriptor) (r : Reach) (P : Chain → Typ
       ways (ltb n (d.address + d.count)) (ltb 4096 (r.total + d.count)) (bit d.status 1)
       (ltb-false n (d.address + d.count)) (ltb-false 4096 (r.total + d.count))
 
--- a chain stays small as it grows
+-- a chain that goes on is within bounds
+abbrev Small : Chain → Type 0
+Small c = MatchControlFlow c Within (λ e. Unit {0})
+
+-- .. as it grows
 grow_small : (n : ℕ) (ring : Ring) (d : Descriptor) (r : Reach) → Counted d → Within r → Small (grow n ring d r)
-unfolding Small further
+unfolding further
 grow_small n ring d r q s = grown n ring d r Small tt (λ i. tt) (λ i t. tt) (λ i t. record { few = omega arith; most = t })
 
--- an open chain that is small
-pub open_within : (c : Chain) (r : Reach) → Small c → c ≡ Open r → Within r
-unfolding Small
-open_within c r s e = rw e at s
+pub grow_bounds : (n : ℕ) (ring : Ring) (d : Descriptor) (r first : Reach) → Counted d → Within r → Continue first ≡ grow n ring d r → Within first
+grow_bounds n ring d r first q s e = subst Small (sym e) (grow_small n ring d r q s)
 
 -- in the memory m
 module _ (n : ℕ) (ring : Ring) (m : List ℕ) where
   -- what a chain is after one slot more, and after k
   unfoldable pub linked : Chain → Chain
-  linked (Open r) = by found n ring r.slot m outside: (Over Memory r) not_owned: (Over Short r) owned: (λ d. grow n ring d r)
-  linked (Over e r) = Over e r
+  linked (Continue r) = by found n ring r.slot m outside: (over Memory r) not_owned: (over Short r) owned: (λ d. grow n ring d r)
+  linked (Break e) = Break e
 
   unfoldable pub linkeds : ℕ → Chain → Chain
   linkeds zero c = c
   linkeds (suc k) c = linkeds k (linked c)
 
   opened : (r : Reach) (f : Found)
-      → run (by f outside: (done (Over Memory r)) not_owned: (done (Over Short r)) owned: (λ d. done (grow n ring d r))) m
-      ≡ record { answer = by f outside: (Over Memory r) not_owned: (Over Short r) owned: (λ d. grow n ring d r); memory = m }
+      → run (by f outside: (done (over Memory r)) not_owned: (done (over Short r)) owned: (λ d. done (grow n ring d r))) m
+      ≡ record { answer = by f outside: (over Memory r) not_owned: (over Short r) owned: (λ d. grow n ring d r); memory = m }
   unfolding by◌outside:◌not_owned:◌owned:◌
-  opened r Outside = run_done (Over Memory r) m
-  opened r NotOwned = run_done (Over Short r) m
+  opened r Outside = run_done (over Memory r) m
+  opened r NotOwned = run_done (over Short r) m
   opened r (Owned d) = run_done (grow n ring d r) m
 
   run_link : (c : Chain) → run (link n ring c) m ≡ record { answer = linked c; memory = m }
   unfolding link linked
-  run_link (Open r) =
+  run_link (Continue r) =
       after (look n ring r.slot)
-      (λ f. by f outside: (done (Over Memory r)) not_owned: (done (Over Short r)) owned: (λ d. done (grow n ring d r)))
+      (λ f. by f outside: (done (over Memory r)) not_owned: (done (over Short r)) owned: (λ d. done (grow n ring d r)))
       m m (found n ring r.slot m) (run_look n ring r.slot m)
       ∙ opened r (found n ring r.slot m)
-  run_link (Over e r) = run_done (Over e r) m
+  run_link (Break e) = run_done (Break e) m
 
   run_links : (k : ℕ) (c : Chain) → run (links n ring k c) m ≡ record { answer = linkeds k c; memory = m }
   unfolding links linkeds
@@ -129,10 +132,10 @@ module _ (n : ℕ) (ring : Ring) (m : List ℕ) where
 
   -- what growing keeps, reading keeps
   module _ (P : Chain → Type 0)
-      (ends : (e : Close) (r : Reach) → P (Open r) → P (Over e r))
-      (grows : (r : Reach) (d : Descriptor) → found n ring r.slot m ≡ Owned d → P (Open r) → P (grow n ring d r)) where
-    by_found : (r : Reach) (f : Found) → found n ring r.slot m ≡ f → P (Open r)
-        → P (by f outside: (Over Memory r) not_owned: (Over Short r) owned: (λ d. grow n ring d r))
+      (ends : (e : Close) (r : Reach) → P (Continue r) → P (over e r))
+      (grows : (r : Reach) (d : Descriptor) → found n ring r.slot m ≡ Owned d → P (Continue r) → P (grow n ring d r)) where
+    by_found : (r : Reach) (f : Found) → found n ring r.slot m ≡ f → P (Continue r)
+        → P (by f outside: (over Memory r) not_owned: (over Short r) owned: (λ d. grow n ring d r))
     unfolding by◌outside:◌not_owned:◌owned:◌
     by_found r Outside e p = ends Memory r p
     by_found r NotOwned e p = ends Short r p
@@ -140,66 +143,59 @@ module _ (n : ℕ) (ring : Ring) (m : List ℕ) where
 
     keeps : (c : Chain) → P c → P (linked c)
     unfolding linked
-    keeps (Open r) p = by_found r (found n ring r.slot m) refl p
-    keeps (Over e r) p = p
+    keeps (Continue r) p = by_found r (found n ring r.slot m) refl p
+    keeps (Break e) p = p
 
     pub kept : (k : ℕ) (c : Chain) → P c → P (linkeds k c)
     unfolding linkeds
     kept zero c p = p
     kept (suc k) c p = kept k (linked c) (keeps c p)
 
--- reading keeps a chain small
-pub links_small : (n : ℕ) (ring : Ring) (k : ℕ) (c g : Chain) (m : List ℕ) → Small c → run (links n ring k c) m ≡ record { answer = g; memory = m } → Small g
-unfolding Small
-links_small n ring k c g m s e =
-    let a : linkeds n ring m k c ≡ g = ap (λ (x : Ended Chain). x.answer) (sym (run_links n ring m k c) ∙ e) in
-    rw a at (kept n ring m Small (λ e r s. tt) (λ r d f s. grow_small n ring d r (found_counted n ring r.slot m d f) s) k c s)
-
 -- the ways of one slot more
-module _ (ring : Ring) (m : List ℕ) (c : Chain) (r : Reach) where
-  pub link_over : (e : Close) → c ≡ Over e r → run (link (length m) ring c) m ≡ record { answer = Over e r; memory = m }
-  unfolding link
-  link_over e ec = rw ec (run_done (Over e r) m)
+module _ (ring : Ring) (m : List ℕ) (r : Reach) (f : Found) (e : run (look (length m) ring r.slot) m ≡ record { answer = f; memory = m }) (g : Chain) where
+  -- what is found says how the chain goes on
+  seen : (h : Found) → f ≡ h → g ≡ by h outside: (over Memory r) not_owned: (over Short r) owned: (λ d. grow (length m) ring d r)
+      → run (link (length m) ring (Continue r)) m ≡ record { answer = g; memory = m }
+  unfolding linked
+  seen h ef eg = rw (eg, ← ef, ← look_finds (length m) ring r.slot m f e) (run_link (length m) ring m (Continue r))
 
-  module _ (ec : c ≡ Open r) (f : Found) (e : run (look (length m) ring r.slot) m ≡ record { answer = f; memory = m }) where
-    -- what is found says how the chain goes on
-    seen : (g : Found) → f ≡ g
-        → run (link (length m) ring c) m
-        ≡ record { answer = by g outside: (Over Memory r) not_owned: (Over Short r) owned: (λ d. grow (length m) ring d r); memory = m }
-    unfolding linked
-    seen g ef = rw (ec, ← ef, ← look_finds (length m) ring r.slot m f e) (run_link (length m) ring m (Open r))
+  pub link_outside : f ≡ Outside → g ≡ over Memory r → run (link (length m) ring (Continue r)) m ≡ record { answer = g; memory = m }
+  unfolding by◌outside:◌not_owned:◌owned:◌
+  link_outside ef eg = seen Outside ef eg
 
-    pub link_outside : f ≡ Outside → run (link (length m) ring c) m ≡ record { answer = Over Memory r; memory = m }
+  pub link_not_owned : f ≡ NotOwned → g ≡ over Short r → run (link (length m) ring (Continue r)) m ≡ record { answer = g; memory = m }
+  unfolding by◌outside:◌not_owned:◌owned:◌
+  link_not_owned ef eg = seen NotOwned ef eg
+
+  module _ (d : Descriptor) (ef : f ≡ Owned d) where
+    pub link_owned : g ≡ grow (length m) ring d r → run (link (length m) ring (Continue r)) m ≡ record { answer = g; memory = m }
     unfolding by◌outside:◌not_owned:◌owned:◌
-    link_outside ef = seen Outside ef
+    link_owned eg = seen (Owned d) ef eg
 
-    pub link_not_owned : f ≡ NotOwned → run (link (length m) ring c) m ≡ record { answer = Over Short r; memory = m }
-    unfolding by◌outside:◌not_owned:◌owned:◌
-    link_not_owned ef = seen NotOwned ef
-
-    module _ (d : Descriptor) (ef : f ≡ Owned d) where
-      pub link_owned : (g : Chain) → g ≡ grow (length m) ring d r → run (link (length m) ring c) m ≡ record { answer = g; memory = m }
-      unfolding by◌outside:◌not_owned:◌owned:◌
-      link_owned g eg = rw eg (seen (Owned d) ef)
-
-      pub link_counted : Counted d
-      link_counted = found_counted (length m) ring r.slot m d (look_finds (length m) ring r.slot m f e ∙ ef)
+-- a descriptor that a look finds
+pub look_counted : (ring : Ring) (m : List ℕ) (i : Slot) (f : Found) (d : Descriptor) → run (look (length m) ring i) m ≡ record { answer = f; memory = m }
+    → f ≡ Owned d → Counted d
+look_counted ring m i f d e ef = found_counted (length m) ring i m d (look_finds (length m) ring i m f e ∙ ef)
 
 -- the ways of k slots more
-module _ (n : ℕ) (ring : Ring) (k : ℕ) (m : List ℕ) (c g : Chain) where
+module _ (n : ℕ) (ring : Ring) (k : ℕ) (m : List ℕ) (c : Chain) where
   pub links_none : k ≡ 0 → run (links n ring k c) m ≡ record { answer = c; memory = m }
   unfolding links
   links_none h = rw h (run_done c m)
 
-  pub links_one : k ≡ 1 → run (link n ring c) m ≡ record { answer = g; memory = m } → run (links n ring k c) m ≡ record { answer = g; memory = m }
+  pub links_one : (g : Chain) → k ≡ 1 → run (link n ring c) m ≡ record { answer = g; memory = m } → run (links n ring k c) m ≡ record { answer = g; memory = m }
   unfolding links
-  links_one h e = rw h (after (link n ring c) (links n ring 0) m m g e ∙ run_done g m)
+  links_one g h e = rw h (after (link n ring c) (links n ring 0) m m g e ∙ run_done g m)
 
 -- a chain that is over stays as it is
-pub links_over : (n : ℕ) (ring : Ring) (k : ℕ) (m : List ℕ) (c : Chain) (e : Close) (r : Reach) → c ≡ Over e r → run (links n ring k c) m ≡ record { answer = c; memory = m }
+over_stays : (n : ℕ) (ring : Ring) (k : ℕ) (m : List ℕ) (e : Closed) → run (links n ring k (Break e)) m ≡ record { answer = Break e; memory = m }
 unfolding links link ◌>>=◌
-links_over n ring zero m c e r ec = run_done c m
-links_over n ring (suc k) m c e r ec = rw ec (links_over n ring k m (Over e r) e r refl)
+over_stays n ring zero m e = run_done (Break e) m
+over_stays n ring (suc k) m e = over_stays n ring k m e
+
+pub links_over : (n : ℕ) (ring : Ring) (k : ℕ) (m : List ℕ) (c g : Chain) (e : Closed) → Break e ≡ c → g ≡ Break e
+    → run (links n ring k c) m ≡ record { answer = g; memory = m }
+links_over n ring k m c g e ec eg = rw (← ec, eg) (over_stays n ring k m e)
 
 -- k slots in two parts
 links_add : (n : ℕ) (ring : Ring) (a b : ℕ) (m : List ℕ) (c : Chain)
@@ -213,42 +209,42 @@ links_add n ring (suc a) b m c =
     ∙ sym
     (ap (λ (x : Ended Chain). run (links n ring b x.answer) x.memory) (run_then (link n ring c) (links n ring a) m))
 
-pub links_both : (n : ℕ) (ring : Ring) (k : ℕ) (m : List ℕ) (c first g : Chain)
-    → run (links n ring (k / 2) c) m ≡ record { answer = first; memory = m }
-    → run (links n ring (k - k / 2) first) m ≡ record { answer = g; memory = m }
-    → run (links n ring k c) m ≡ record { answer = g; memory = m }
-links_both n ring k m c first g e f =
-    let sum : k ≡ k / 2 + (k - k / 2) = omega arith in
-    ap (λ (j : ℕ). run (links n ring j c) m) sum
-    ∙ links_add n ring (k / 2) (k - k / 2) m c
-    ∙ ap (λ (x : Ended Chain). run (links n ring (k - k / 2) x.answer) x.memory) e ∙ f
+module _ (n : ℕ) (ring : Ring) (k : ℕ) (m : List ℕ) (c first : Chain) (e : run (links n ring (k / 2) c) m ≡ record { answer = first; memory = m }) where
+  pub links_both : (g : Chain) → run (links n ring (k - k / 2) first) m ≡ record { answer = g; memory = m }
+      → run (links n ring k c) m ≡ record { answer = g; memory = m }
+  links_both g f =
+      let sum : k ≡ k / 2 + (k - k / 2) = omega arith in
+      ap (λ (j : ℕ). run (links n ring j c) m) sum
+      ∙ links_add n ring (k / 2) (k - k / 2) m c
+      ∙ ap (λ (x : Ended Chain). run (links n ring (k - k / 2) x.answer) x.memory) e ∙ f
 
--- a chain before its first slot
-pub start_within : (i : Slot) → Within (record { slot = i; slots = 0; total = 0 })
-start_within i = record { few = omega arith; most = omega arith }
+  pub links_ended : (g : Chain) (x : Closed) → first ≡ Break x → g ≡ Break x → run (links n ring k c) m ≡ record { answer = g; memory = m }
+  links_ended g x h eg = links_both g (links_over n ring (k - k / 2) m first g x (sym h) eg)
 
-pub first_small : (n : ℕ) (ring : Ring) (d : Descriptor) (i : Slot) (first : Chain) → Counted d
-    → first ≡ grow n ring d (record { slot = i; slots = 0; total = 0 }) → Small first
-first_small n ring d i first q e = rw e (grow_small n ring d _ q (start_within i))
+-- reading keeps a chain within bounds
+pub links_bounds : (n : ℕ) (ring : Ring) (k : ℕ) (r first : Reach) (m : List ℕ) → Within r
+    → run (links n ring k (Continue r)) m ≡ record { answer = Continue first; memory = m } → Within first
+links_bounds n ring k r first m s e =
+    let a : linkeds n ring m k (Continue r) ≡ Continue first = ap (λ (x : Ended Chain). x.answer) (sym (run_links n ring m k (Continue r)) ∙ e) in
+    subst Small a (kept n ring m Small (λ e r s. tt) (λ r d f s. grow_small n ring d r (found_counted n ring r.slot m d f) s) k (Continue r) s)
 
 -- the ways that a chain ends
-module _ (n : ℕ) (ring : Ring) (m : List ℕ) (i : Slot) (d : Descriptor) (first last : Chain) (r : Reach)
-    (e : first ≡ grow n ring d (record { slot = i; slots = 0; total = 0 })) (k : ℕ) (ek : k ≡ slots ring)
-    (l : run (links n ring (k - 1) first) m ≡ record { answer = last; memory = m }) where
+module _ (n : ℕ) (ring : Ring) (m : List ℕ) (i : Slot) (d : Descriptor) (last : Chain)
+    (l : run (links n ring (slots ring - 1) (grow n ring d (record { slot = i; slots = 0; total = 0 }))) m ≡ record { answer = last; memory = m }) where
   ended : run (read_chain n ring i d) m ≡ record { answer = closed last; memory = m }
   unfolding read_chain
-  ended = rw (← e, ← ek) (after (links n ring (k - 1) first) (λ c. done (closed c)) m m last l ∙ run_done (closed last) m)
+  ended = after (links n ring (slots ring - 1) _) (λ c. done (closed c)) m m last l ∙ run_done (closed last) m
 
-  pub chain_open : last ≡ Open r → run (read_chain n ring i d) m ≡ record { answer = record { close = Short; reach = r }; memory = m }
+  pub chain_open : (r : Reach) → last ≡ Continue r → run (read_chain n ring i d) m ≡ record { answer = record { close = Short; reach = r }; memory = m }
   unfolding closed
-  chain_open h = rw h at ended
+  chain_open r h = rw h at ended
 
-  pub chain_over : (x : Close) → last ≡ Over x r → run (read_chain n ring i d) m ≡ record { answer = record { close = x; reach = r }; memory = m }
+  pub chain_over : (e : Closed) → last ≡ Break e → run (read_chain n ring i d) m ≡ record { answer = e; memory = m }
   unfolding closed
-  chain_over x h = rw h at ended
+  chain_over e h = rw h at ended
 
 -- .. and what a chain is when it was read
 pub run_chain : (n : ℕ) (ring : Ring) (m : List ℕ) (i : Slot) (d : Descriptor)
     → run (read_chain n ring i d) m
     ≡ record { answer = closed (linkeds n ring m (slots ring - 1) (grow n ring d (record { slot = i; slots = 0; total = 0 }))); memory = m }
-run_chain n ring m i d = ended n ring m i d _ _ (record { slot = i; slots = 0; total = 0 }) refl (slots ring) refl (run_links n ring m (slots ring - 1) _)
+run_chain n ring m i d = ended n ring m i d _ (run_links n ring m (slots ring - 1) _)

@@ -15,7 +15,7 @@ use Rattle.ring.specs.declared.Ring.{Ring}
 use Rattle.ring.specs.declared.Descriptor.{Descriptor}
 use Rattle.ring.specs.declared.Found.{Found}
 use Rattle.ring.specs.declared.Found.TheVariants.{Outside, NotOwned, Owned}
-use Rattle.ring.specs.Slots.{slots, next, place}
+use Rattle.ring.specs.Slots.{next, place}
 use Rattle.ring.specs.Descriptor.{look, by◌outside:◌not_owned:◌owned:◌}
 use Rattle.ring.proofs.Finding.{found, run_look, look_finds, found_inside}
 use Rattle.chain.specs.declared.Start.{Start}
@@ -34,26 +34,22 @@ on n ring k i f =
     then done (Frame i d)
     else store (place ring i + 3) (without_own d.status) (pass n ring k (next ring i)))
 
--- all slots of the ring are left at the start
-pub pass_starts : (n : ℕ) (ring : Ring) (left : ℕ) (m : List ℕ) → left ≡ slots ring
-    → run (pass n ring left ring.slot) m ≡ run (pass n ring (slots ring) ring.slot) m
-pass_starts n ring left m e = ap (λ (k : ℕ). run (pass n ring k ring.slot) m) e
-
--- n is the memory's length, and what is left comes to the whole, w
-module _ (n : ℕ) (ring : Ring) (left : ℕ) (i : Slot) (m : List ℕ) (w : Ended Start) (len : length m ≡ n) (whole : run (pass n ring left i) m ≡ w) where
+-- n is the memory's length, i was reached after k of the slots, and what is left comes to the whole, w
+module _ (n : ℕ) (ring : Ring) (all k : ℕ) (i : Slot) (m : List ℕ) (w : Ended Start) (len : length m ≡ n)
+    (whole : run (pass n ring (all - k) i) m ≡ w) where
   -- no slot is left
-  pub pass_over : left ≤ 0 → w ≡ record { answer = Nothing i; memory = m }
+  pub pass_over : all ≤ k → w ≡ record { answer = Nothing i; memory = m }
   unfolding pass
   pass_over h =
-      let l : left ≡ 0 = omega arith in
-      sym whole ∙ ap (λ (k : ℕ). run (pass n ring k i) m) l ∙ run_done (Nothing i) m
+      let l : all - k ≡ 0 = omega arith in
+      sym whole ∙ ap (λ (x : ℕ). run (pass n ring x i) m) l ∙ run_done (Nothing i) m
 
-  module _ (h : 0 < left) (f : Found) (e : run (look (length m) ring i) m ≡ record { answer = f; memory = m }) where
-    seen : (g : Found) → f ≡ g → w ≡ run (on n ring (left - 1) i g) m
+  module _ (h : k < all) (f : Found) (e : run (look (length m) ring i) m ≡ record { answer = f; memory = m }) where
+    seen : (g : Found) → f ≡ g → w ≡ run (on n ring (all - (k + 1)) i g) m
     unfolding pass
     seen g ef =
-        let l : left ≡ suc (left - 1) = omega arith in
-        sym whole ∙ ap (λ (k : ℕ). run (pass n ring k i) m) l ∙ after (look n ring i) (on n ring (left - 1) i) m m g (rw (len, ef) at e)
+        let l : all - k ≡ suc (all - (k + 1)) = omega arith in
+        sym whole ∙ ap (λ (x : ℕ). run (pass n ring x i) m) l ∙ after (look n ring i) (on n ring (all - (k + 1)) i) m m g (rw (len, ef) at e)
 
     pub pass_outside : f ≡ Outside → w ≡ record { answer = NoMemory i; memory = m }
     unfolding by◌outside:◌not_owned:◌owned:◌
@@ -69,7 +65,7 @@ module _ (n : ℕ) (ring : Ring) (left : ℕ) (i : Slot) (m : List ℕ) (w : End
       pass_frame b = seen (Owned d) ef ∙ run_if _ _ _ m (eq-eqb _ _ b) ∙ run_done (Frame i d) m
 
       pub pass_on : (at : ℕ) (j : Slot) → (d.status / 2 % 2 ≡ 1 → ⊥) → at ≡ place ring i → j ≡ next ring i
-          → run (pass n ring (left - 1) j) (set m (at + 3) (d.status % 128)) ≡ w
+          → run (pass n ring (all - (k + 1)) j) (set m (at + 3) (d.status % 128)) ≡ w
       unfolding run without_own by◌outside:◌not_owned:◌owned:◌
       pass_on at j b ea ej = sym (rw (ea, ej) (seen (Owned d) ef ∙ run_else _ _ _ m (ne_eqb _ _ b)))
 

@@ -7,6 +7,7 @@ use native.Mathlib.Nat.{eq-or-lt_of_le}
 use native.Mathlib.Numerals.{add-one}
 use native.Mathlib.Omega.{arith}
 use lib.ListN.{length, length-append}
+use Rattle.std.specs.declared.ops.ControlFlow.TheVariants.{Continue, Break}
 use Rattle.bus.specs.Bus.{run, Ended}
 use Rattle.bus.proofs.Bytes.{length_part}
 use Rattle.ring.specs.declared.Slot.{Slot}
@@ -19,10 +20,8 @@ use Rattle.ring.proofs.Finding.{found, found_inside, found_is}
 use Rattle.chain.specs.declared.Reach.{Reach}
 use Rattle.chain.specs.declared.Close.{Close}
 use Rattle.chain.specs.declared.Close.TheVariants.{Whole, Memory, Short, Long}
-use Rattle.chain.specs.declared.Chain.{Chain}
-use Rattle.chain.specs.declared.Chain.TheVariants.{Open, Over}
 use Rattle.chain.specs.declared.Closed.{Closed}
-use Rattle.chain.specs.Chain.{further, grow, closed, read_chain}
+use Rattle.chain.specs.Chain.{Chain, further, grow, closed, read_chain}
 use Rattle.chain.specs.Inner.Laid.{later, buffer, buffers, Inside, Laid, Ready}
 use Rattle.chain.proofs.Chains.{grown, linkeds, kept, run_chain}
 
@@ -92,8 +91,8 @@ module _ (m : List ℕ) (ring : Ring) where
 
   -- what is so of a chain while it is read
   unfoldable Held : Slot → Chain → Type 0
-  Held i (Open r) = Full i r
-  Held i (Over e r) = Ready m ring r.slots i e
+  Held i (Continue r) = Full i r
+  Held i (Break e) = Ready m ring e.reach.slots i e.close
 
   -- .. is so as it grows
   grow_held : (i : Slot) (r : Reach) (d : Descriptor) → Reached i r → found (length m) ring r.slot m ≡ Owned d → Held i (grow (length m) ring d r)
@@ -111,8 +110,8 @@ module _ (m : List ℕ) (ring : Ring) where
 
   closed_ready : (i : Slot) (c : Chain) → Held i c → Ready m ring (closed c).reach.slots i (closed c).close
   unfolding Held closed
-  closed_ready i (Open r) h = full_ready i r Short h
-  closed_ready i (Over e r) h = h
+  closed_ready i (Continue r) h = full_ready i r Short h
+  closed_ready i (Break e) h = h
 
   pub chain_ready : (i : Slot) (d : Descriptor) (c : Closed) → found (length m) ring i m ≡ Owned d
       → run (read_chain (length m) ring i d) m ≡ record { answer = c; memory = m } → Ready m ring c.reach.slots i c.close

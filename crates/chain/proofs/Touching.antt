@@ -8,6 +8,7 @@ use mathlib.Core.Path.{◌≡◌, refl, sym, ap, subst, ◌∙◌}
 use mathlib.Core.Logic.{◌⊎◌, inl, ⊎_elim}
 use mathlib.Core.List.{List}
 use lib.ListN.{get_or}
+use Rattle.std.specs.declared.ops.ControlFlow.TheVariants.{Continue, Break}
 use Rattle.bus.specs.Bus.{Bus, run, Ended}
 use Rattle.bus.specs.Within.{Within}
 use Rattle.bus.proofs.Within.{so_if, within_done, within_store, within_then}
@@ -24,11 +25,9 @@ use Rattle.ring.proofs.Looking.{so_by, found_owned, keeps_looked}
 use Rattle.chain.specs.declared.Start.{Start}
 use Rattle.chain.specs.declared.Start.TheVariants.{NoMemory, Nothing, Frame}
 use Rattle.chain.specs.declared.Reach.{Reach}
-use Rattle.chain.specs.declared.Chain.{Chain}
-use Rattle.chain.specs.declared.Chain.TheVariants.{Open, Over}
 use Rattle.chain.specs.declared.Closed.{Closed}
 use Rattle.chain.specs.Start.{pass}
-use Rattle.chain.specs.Chain.{further, grow, closed, link, links, read_chain}
+use Rattle.chain.specs.Chain.{Chain, further, grow, closed, link, links, read_chain}
 use Rattle.chain.specs.Inner.Laid.{later}
 use Rattle.chain.proofs.Chains.{grown, kept, run_chain}
 use Rattle.chain.proofs.Reaching.{later_last}
@@ -51,8 +50,8 @@ module _ (ring : Ring) where
 
   -- a chain that goes on there
   abbrev ChainIn : Chain → Type 0
-  ChainIn (Open c) = c.slot.0 < slots ring
-  ChainIn (Over e c) = c.slot.0 < slots ring
+  ChainIn (Continue c) = c.slot.0 < slots ring
+  ChainIn (Break e) = e.reach.slot.0 < slots ring
 
   abbrev pub ClosedIn : List ℕ → Closed → Type 0
   ClosedIn m c = c.reach.slot.0 < slots ring
@@ -81,11 +80,11 @@ module _ (ring : Ring) where
 
     link_within : (c : Chain) (m : List ℕ) → ChainIn c → Ok (λ m c. ChainIn c) (link n ring c) m
     unfolding link
-    link_within (Open c) m h =
+    link_within (Continue c) m h =
         keeps_looked _ _ ring (λ m a q. inl q) n _ _ _ c.slot _ m h
         (so_by (λ (p : Bus Chain). Ok (λ m c. ChainIn c) p m) (found n ring c.slot m) _ _ _ (within_done _ _ _ _ m h) (within_done _ _ _ _ m h)
         (λ d e. within_done _ _ _ _ m (grow_within d c h)))
-    link_within (Over e c) m h = within_done _ _ _ _ m h
+    link_within (Break e) m h = within_done _ _ _ _ m h
 
     links_within : (k : ℕ) (c : Chain) (m : List ℕ) → ChainIn c → Ok (λ m c. ChainIn c) (links n ring k c) m
     unfolding links
@@ -94,20 +93,14 @@ module _ (ring : Ring) where
 
     closed_within : (c : Chain) (m : List ℕ) → ChainIn c → ClosedIn m (closed c)
     unfolding closed
-    closed_within (Open c) m h = h
-    closed_within (Over e c) m h = h
+    closed_within (Continue c) m h = h
+    closed_within (Break e) m h = h
 
     pub chain_within : (i : Slot) (d : Descriptor) (m : List ℕ) → i.0 < slots ring → Ok ClosedIn (read_chain n ring i d) m
     unfolding read_chain
     chain_within i d m h =
         within_then _ _ (λ m c. ChainIn c) _ (links n ring (slots ring - 1) _) _ m (links_within (slots ring - 1) _ m (grow_within d _ h))
         (λ c m' e l. within_done _ _ _ _ m' (closed_within c m' l))
-
--- a slot reached from one of a ring's is one of them
-pub later_within : (ring : Ring) (k : ℕ) (i : Slot) → i.0 < slots ring → (later ring k i).0 < slots ring
-unfolding later
-later_within ring zero i h = h
-later_within ring (suc k) i h = later_within ring k (next ring i) (next_within ring i (omega arith))
 
 -- a chain that was read from slot i on: each of its slots is owned
 module _ (n : ℕ) (ring : Ring) (m : List ℕ) (i : Slot) where
@@ -119,8 +112,8 @@ module _ (n : ℕ) (ring : Ring) (m : List ℕ) (i : Slot) where
     owned : OwnedTo c
 
   unfoldable Held : Chain → Type 0
-  Held (Open c) = Chained c
-  Held (Over e c) = OwnedTo c
+  Held (Continue c) = Chained c
+  Held (Break e) = OwnedTo e.reach
 
   grow_held : (c : Reach) (d : Descriptor) → found n ring c.slot m ≡ Owned d → Chained c → Held (grow n ring d c)
   unfolding Held further
@@ -133,8 +126,8 @@ module _ (n : ℕ) (ring : Ring) (m : List ℕ) (i : Slot) where
 
   closed_owned : (c : Chain) → Held c → OwnedTo (closed c).reach
   unfolding Held closed
-  closed_owned (Open c) h = h.owned
-  closed_owned (Over e c) h = h
+  closed_owned (Continue c) h = h.owned
+  closed_owned (Break e) h = h
 
   pub chain_owned : (d : Descriptor) (c : Closed) (m' : List ℕ) → found n ring i m ≡ Owned d → run (read_chain n ring i d) m ≡ record { answer = c; memory = m' }
       → OwnedTo c.reach

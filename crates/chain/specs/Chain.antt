@@ -2,6 +2,8 @@
 -- the bottom: `read_chain` is the whole chain.
 use Rattle.std.specs.Prelude.{ℕ, zero, suc, ◌+◌, ◌-◌, ltb}
 use Rattle.std.specs.Prelude.{if◌then◌else◌}
+use Rattle.std.specs.declared.ops.ControlFlow.{ControlFlow}
+use Rattle.std.specs.declared.ops.ControlFlow.TheVariants.{Continue, Break}
 use Rattle.bus.specs.Bits.{bit}
 use Rattle.bus.specs.Bus.{Bus, done, ◌>>=◌}
 use Rattle.ring.specs.declared.Slot.{Slot}
@@ -11,10 +13,16 @@ use Rattle.ring.specs.Slots.{slots, next}
 use Rattle.ring.specs.Status.{ENP}
 use Rattle.ring.specs.Descriptor.{look, by◌outside:◌not_owned:◌owned:◌}
 use Rattle.chain.specs.declared.Reach.{Reach}
+use Rattle.chain.specs.declared.Close.{Close}
 use Rattle.chain.specs.declared.Close.TheVariants.{Whole, Memory, Short, Long}
-use Rattle.chain.specs.declared.Chain.{Chain}
-use Rattle.chain.specs.declared.Chain.TheVariants.{Open, Over}
 use Rattle.chain.specs.declared.Closed.{Closed}
+
+-- a chain that is being read: how far it goes on, or how it is over
+abbrev pub Chain : Type 0
+Chain = ControlFlow Closed Reach
+
+abbrev pub over : Close → Reach → Chain
+over e c = Break (record { close = e; reach = c })
 
 -- a chain that reaches over one descriptor more
 unfoldable pub further : Ring → Descriptor → Reach → Reach
@@ -24,24 +32,24 @@ further r d c = record { slot = next r c.slot; slots = c.slots + 1; total = c.to
 unfoldable pub grow : ℕ → Ring → Descriptor → Reach → Chain
 grow n r d c =
     if ltb n (d.address + d.count)
-    then Over Memory c
+    then over Memory c
     else if ltb 4096 (c.total + d.count)
-    then Over Long (further r d c)
-    else if bit d.status ENP then Over Whole (further r d c) else Open (further r d c)
+    then over Long (further r d c)
+    else if bit d.status ENP then over Whole (further r d c) else Continue (further r d c)
 
 -- ".. or ring used up, underflow at the slot before"
 unfoldable pub closed : Chain → Closed
-closed (Open c) = record { close = Short; reach = c }
-closed (Over e c) = record { close = e; reach = c }
+closed (Continue c) = record { close = Short; reach = c }
+closed (Break e) = e
 
 -- in a memory of n bytes
 module _ (n : ℕ) (r : Ring) where
   -- "Per slot: descriptor outside, MERR; OWN clear .., underflow at the slot before"
   unfoldable pub link : Chain → Bus Chain
-  link (Open c) =
+  link (Continue c) =
       look n r c.slot
-      >>= (λ found. by found outside: (done (Over Memory c)) not_owned: (done (Over Short c)) owned: (λ d. done (grow n r d c)))
-  link (Over e c) = done (Over e c)
+      >>= (λ found. by found outside: (done (over Memory c)) not_owned: (done (over Short c)) owned: (λ d. done (grow n r d c)))
+  link (Break e) = done (Break e)
 
   unfoldable pub links : ℕ → Chain → Bus Chain
   links zero c = done c

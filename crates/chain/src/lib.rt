@@ -1,19 +1,23 @@
 // The start of a frame in a transmit ring, and the chain of its descriptors.
+// A memory and a ring stay two parameters: `ring::look` and `transmit::turn` take them so, and a struct of both would be made at each.
 #![tactic(auto)]
 
-ghost use Rattle.std.specs.Prelude.{◌≡◌, ◌<◌, length};
+ghost use Rattle.std.specs.Prelude.{◌≡◌, ◌-◌, ◌<◌, length};
+ghost use Rattle.std.specs.declared.ops.ControlFlow.TheVariants.{Continue};
 ghost use Rattle.bus.specs.Bus.{run};
 ghost use Rattle.ring.specs.Slots.{slots};
 ghost use Rattle.chain.specs.Start.{pass};
-ghost use Rattle.chain.specs.Chain.{grow, link, links, read_chain};
-ghost use Rattle.chain.specs.Inner.Bounds.{Counted, Within, Small};
+ghost use Rattle.chain.specs.Chain.{over, grow, link, links, read_chain};
+ghost use Rattle.chain.specs.Inner.Bounds.{Counted, Within};
 
 use ring::{Descriptor, ENP, Found, OWN, Ring, STP, Slot, look};
+use std::ops::ControlFlow;
 
 // The most bytes that a chain may have.
 const MOST: u16 = 4096;
 
 // What a turn finds where a frame should start.
+// Three ends, each with its slot: an Option or a Result would need an enum of two inside, and `Found` would call a ring that was passed not owned.
 #[derive(Clone, Copy)]
 pub enum Start {
     NoMemory(Slot),
@@ -30,19 +34,13 @@ pub struct Reach {
 }
 
 // How a chain ends: with ENP, outside memory, at a slot that isn't the card's, or with too many bytes.
+// Four ends that `transmit` tells apart: a Result would need an enum of the last three inside.
 #[derive(Clone, Copy)]
 pub enum Close {
     Whole,
     Memory,
     Short,
     Long,
-}
-
-// A chain that is being read.
-#[derive(Clone, Copy)]
-pub enum Chain {
-    Open(Reach),
-    Over(Close, Reach),
 }
 
 // A chain that was read.
@@ -52,102 +50,103 @@ pub struct Closed {
     pub reach: Reach,
 }
 
+impl Reach {
+    // A chain that is over, and how.
+    fn over(self, close: Close) -> ControlFlow<Closed, Reach>
+        ensures { result ≡ over close self }
+    {
+        ControlFlow::Break(Closed { close, reach: self })
+    }
+}
+
 // Slots are passed to where a frame starts, from the current one on.
+// No iterator over a ring's slots: it would be a type with laws of its own, for this loop and two in `transmit`.
 pub fn pass(memory: &mut [u8], ring: Ring) -> Start
     ensures { run (pass (length memory.old) ring (slots ring) ring.slot) memory.old ≡ record { answer = result; memory = memory.new } }
 {
-    let r = ring;
     let mut i = ring.slot;
-    let mut left = ring.slots();
-    while 0 < left {
-        let found = look(memory, r, i);
-        match found {
-            Found::Outside => {
-                return Start::NoMemory(i);
-            }
-            Found::NotOwned => {
-                return Start::Nothing(i);
-            }
+    for _ in 0..ring.slots() {
+        match look(memory, ring, i) {
+            Found::Outside => return Start::NoMemory(i),
+            Found::NotOwned => return Start::Nothing(i),
             Found::Owned(d) => {
-                let status = d.status;
-                let stp = status / STP % 2;
+                let stp = d.status / STP % 2;
                 if stp == 1 {
                     return Start::Frame(i, d);
                 }
-                let at = r.place(i);
-                memory[at + 3] = status % OWN;
-                i = r.next(i);
-                left -= 1;
+                let at = ring.place(i);
+                memory[at + 3] = d.status % OWN;
+                i = ring.next(i);
             }
         }
     }
     Start::Nothing(i)
 }
 
-// A chain grows by an owned descriptor, in a memory of n bytes.
-fn grow(n: usize, ring: Ring, d: Descriptor, reach: Reach) -> Chain
+// A chain grows by an owned descriptor, in a memory of n bytes: it goes on, or it is over.
+// `Within` is no invariant of Reach: a chain that is over may have more bytes, and a type of those that go on would be its twin.
+// `Counted` is asked here as `read_chain` asks it, whose contract may not change.
+fn grow(n: usize, ring: Ring, d: Descriptor, reach: Reach) -> ControlFlow<Closed, Reach>
     requires counted { Counted d }
     requires within { Within reach }
     ensures { result ≡ grow n ring d reach }
 {
     let end = d.address as usize + d.count as usize;
-    let slot = ring.next(reach.slot);
-    let used = reach.slots + 1;
-    let total = reach.total + d.count;
     let further = Reach {
-        slot,
-        slots: used,
-        total,
+        slot: ring.next(reach.slot),
+        slots: reach.slots + 1,
+        total: reach.total + d.count,
     };
     if n < end {
-        return Chain::Over(Close::Memory, reach);
+        return reach.over(Close::Memory);
     }
-    if MOST < total {
-        return Chain::Over(Close::Long, further);
+    if MOST < further.total {
+        return further.over(Close::Long);
     }
     let enp = d.status / ENP % 2;
     if enp == 1 {
-        return Chain::Over(Close::Whole, further);
+        return further.over(Close::Whole);
     }
-    Chain::Open(further)
+    ControlFlow::Continue(further)
 }
 
-// One slot more of a chain, unless it is over.
-fn link(memory: &[u8], ring: Ring, chain: Chain) -> Chain
-    requires { Small chain }
-    ensures { run (link (length memory.now) ring chain) memory.now ≡ record { answer = result; memory = memory.now } }
+// One slot more of an open chain.
+fn link(memory: &[u8], ring: Ring, reach: Reach) -> ControlFlow<Closed, Reach>
+    requires { Within reach }
+    ensures { run (link (length memory.now) ring (Continue reach)) memory.now ≡ record { answer = result; memory = memory.now } }
 {
-    match chain {
-        Chain::Over(close, reach) => Chain::Over(close, reach),
-        Chain::Open(reach) => {
-            let slot = reach.slot;
-            let found = look(memory, ring, slot);
-            match found {
-                Found::Outside => Chain::Over(Close::Memory, reach),
-                Found::NotOwned => Chain::Over(Close::Short, reach),
-                Found::Owned(d) => grow(memory.len(), ring, d, reach),
-            }
-        }
+    match look(memory, ring, reach.slot) {
+        Found::Outside => reach.over(Close::Memory),
+        Found::NotOwned => reach.over(Close::Short),
+        Found::Owned(d) => grow(memory.len(), ring, d, reach),
     }
 }
 
-// At most k slots more of a chain: each half by itself, so that no call is as deep as the chain is long.
-fn links(memory: &[u8], ring: Ring, k: u32, chain: Chain) -> Chain
-    requires { Small chain }
-    ensures { run (links (length memory.now) ring k chain) memory.now ≡ record { answer = result; memory = memory.now } }
+// At most k slots more of an open chain: each half by itself, so that no call is as deep as the chain is long.
+fn links(memory: &[u8], ring: Ring, k: u32, reach: Reach) -> ControlFlow<Closed, Reach>
+    requires { Within reach }
+    ensures { run (links (length memory.now) ring k (Continue reach)) memory.now ≡ record { answer = result; memory = memory.now } }
 {
-    let Chain::Open(_) = chain else {
-        return chain;
-    };
     if k == 0 {
-        return chain;
+        return ControlFlow::Continue(reach);
     }
     if k == 1 {
-        return link(memory, ring, chain);
+        return link(memory, ring, reach);
     }
     let half = k / 2;
-    let first = links(memory, ring, half, chain);
+    let first = links(memory, ring, half, reach)?;
     links(memory, ring, k - half, first)
+}
+
+// How far a chain goes on from its start, or how it is over, by the first slot's descriptor and the slots after it.
+fn follow(memory: &[u8], ring: Ring, d: Descriptor, start: Reach) -> ControlFlow<Closed, Reach>
+    requires counted { Counted d }
+    requires within { Within start }
+    requires some_slots { 0 < slots ring }
+    ensures { run (links (length memory.now) ring (slots ring - 1) (grow (length memory.now) ring d start)) memory.now ≡ record { answer = result; memory = memory.now } }
+{
+    let first = grow(memory.len(), ring, d, start)?;
+    links(memory, ring, ring.slots() - 1, first)
 }
 
 // The chain from its first slot, whose descriptor was read.
@@ -161,13 +160,11 @@ pub fn read_chain(memory: &[u8], ring: Ring, slot: Slot, d: Descriptor) -> Close
         slots: 0,
         total: 0,
     };
-    let first = grow(memory.len(), ring, d, start);
-    let last = links(memory, ring, ring.slots() - 1, first);
-    match last {
-        Chain::Open(reach) => Closed {
+    match follow(memory, ring, d, start) {
+        ControlFlow::Continue(reach) => Closed {
             close: Close::Short,
             reach,
         },
-        Chain::Over(close, reach) => Closed { close, reach },
+        ControlFlow::Break(closed) => closed,
     }
 }

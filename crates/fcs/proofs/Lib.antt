@@ -2,9 +2,11 @@
 pub mod Xor
 pub mod Shifts
 pub mod Entries
+pub mod Chunks
 pub mod Registers
 pub mod Frames
 pub mod Folds
 pub mod Afters
 pub mod Places
+pub mod Long
 pub mod One

@@ -1,15 +1,16 @@
 -- A word that is moved up, in words of 64 bits, and put on other words.
 -- Assumes nothing.
 use mathlib.Core.Path.{◌≡◌, refl, sym, ap, ap₂, ◌∙◌}
-use mathlib.Core.List.{List, [], ◌∷◌}
+use mathlib.Core.List.{List, [], ◌∷◌, ◌++◌}
 use Prim.Native.Nat.{ℕ, ◌+◌, ◌-◌, ◌*◌, ◌/◌, ◌%◌, ◌^◌, ◌≤◌, ◌<◌}
 use native.Mathlib.Nat.{add-zero, zero-add, mul_assoc, mod-lt, lt_of_le_of_lt, mul-div-mul_right}
 use native.Mathlib.Omega.{arith}
-use lib.ListN.{length, take, drop}
+use lib.ListN.{length}
 use lib.Bits.{bit_xor, xor_block, xor_lt}
 use lib.Pow.{split, pow_pos, pow-add, shr_le}
+use Rattle.std.specs.Int.{sum_through, byte_worth}
+use Rattle.std.specs.Prelude.{slice_index}
 use Rattle.fcs.specs.Waiting.{words, after}
-use Rattle.bus.specs.Words.{little}
 use Rattle.fcs.proofs.Registers.{Bytes}
 use Rattle.fcs.proofs.Afters.{after_fold, word_lt}
 use Rattle.fcs.proofs.Xor.{xor, comm}
@@ -96,8 +97,8 @@ spread_five w b c d e hw h =
     waiting = record { is = refl; small = h }
 
 -- .. and what is to come with them, a word further on
-pub after_folded : (bs : List ℕ) (i n a b c d e : ℕ) → Small (a ∷ b ∷ c ∷ d ∷ e ∷ []) → Bytes bs → n ≡ little (take 8 (drop i bs)) → i + 48 ≤ length bs
-    → after (folded (bit_xor a n) b c d e) (drop (i + 8) bs) ≡ after (a ∷ b ∷ c ∷ d ∷ e ∷ []) (drop i bs)
-after_folded bs i n a b c d e h hb p l =
-    after_fold bs i a n h.0 hb p (omega arith) (b ∷ c ∷ d ∷ e ∷ []) (folded (bit_xor a n) b c d e)
-    (spread_five (bit_xor a n) b c d e (word_lt bs i a n h.0 hb p (omega arith)) h.1) l
+pub after_folded : (w bs : List ℕ) (n a b c d e : ℕ) → Small (a ∷ b ∷ c ∷ d ∷ e ∷ []) → Bytes w → length w ≡ 8 → n ≡ sum_through (λ (i : ℕ). byte_worth i (slice_index w i)) 7 → 40 ≤ length bs
+    → after (folded (bit_xor a n) b c d e) bs ≡ after (a ∷ b ∷ c ∷ d ∷ e ∷ []) (w ++ bs)
+after_folded w bs n a b c d e h hb l p far =
+    after_fold w bs a n h.0 hb l p (b ∷ c ∷ d ∷ e ∷ []) (folded (bit_xor a n) b c d e)
+    (spread_five (bit_xor a n) b c d e (word_lt w bs a n h.0 hb l p) h.1) far

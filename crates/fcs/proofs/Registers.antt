@@ -1,16 +1,21 @@
 -- The register over a list by the number that its bytes stand for.
 -- Assumes nothing.
-use mathlib.Core.Path.{◌≡◌, refl, sym, ap, ap₂, ◌∙◌, subst₂}
+use mathlib.Core.Path.{◌≡◌, refl, sym, ap, ap₂, ◌∙◌, subst, subst₂}
 use mathlib.Core.List.{List, [], ◌∷◌, ◌++◌}
-use Prim.Native.Nat.{ℕ, zero, suc, ◌+◌, ◌*◌, ◌^◌, ◌≤◌, ◌<◌}
-use native.Mathlib.Nat.{zero-mul, add-zero, mul_comm, mul_assoc, mul-add, add_assoc, one-mul, zero-add, pow-suc}
+use Prim.Native.Nat.{ℕ, zero, suc, ◌+◌, ◌*◌, ◌/◌, ◌^◌, ◌≤◌, ◌<◌}
+use native.Mathlib.Nat.{not-suc-le-zero, zero-mul, add-zero, mul_comm, mul_assoc, mul-add, add_assoc, one-mul, zero-add, pow-suc}
 use native.Mathlib.Omega.{arith}
 use lib.ListN.{length, get_or, take, drop, take-append-drop, length-drop, drop_of_length-le}
-use lib.Seq.{drop-drop, length-take-le, get_or-drop, drop-cons, take-add}
+use lib.Seq.{take_all, drop-drop, length-take-le, get_or-drop, drop-cons}
 use lib.Arith.{digits_lt}
 use lib.Bits.{bit_xor}
 use mir.Syntax.{w8}
 use mir.Val.{Fits}
+use Rattle.std.specs.Int.{sum_through, byte_worth}
+use Rattle.std.specs.Prelude.{slice_index}
+use Rattle.std.specs.Simd.{first_chunks}
+use Rattle.fcs.proofs.Chunks.{chunk_at}
+use Rattle.std.proofs.lemmas.List.{take_more}
 use Rattle.bus.specs.Words.{little}
 use Rattle.fcs.specs.Fcs.{shifts, enter, register}
 use Rattle.fcs.proofs.Xor.{xor, assoc, comm, zero_left, joined}
@@ -61,7 +66,7 @@ register_append [] ys c = refl
 register_append (x ∷ xs) ys c = register_append xs ys (enter c x)
 
 -- the next n bytes at once, which stand for d; what is left comes to the same
-pub some_bytes : (n : ℕ) (bs : List ℕ) (i c d c' whole : ℕ) → Bytes bs → d ≡ little (take n (drop i bs)) → c' ≡ shifts (n * 8) (bit_xor c d)
+some_bytes : (n : ℕ) (bs : List ℕ) (i c d c' whole : ℕ) → Bytes bs → d ≡ little (take n (drop i bs)) → c' ≡ shifts (n * 8) (bit_xor c d)
     → register c (drop i bs) ≡ whole → i + n ≤ length bs → register c' (drop (i + n) bs) ≡ whole
 unfolding xor
 some_bytes n bs i c d c' whole h p q e l =
@@ -99,14 +104,46 @@ little_append (x ∷ xs) ys =
     ∙ sym (add_assoc x (256 * little xs) (256 * (256 ^ length xs * little ys)))
     ∙ ap (λ (n : ℕ). x + 256 * little xs + n) (sym (mul_assoc 256 (256 ^ length xs) (little ys)) ∙ ap (λ (n : ℕ). n * little ys) (mul_comm 256 (256 ^ length xs) ∙ sym (pow-suc 256 (length xs))))
 
-pub halves : (n : ℕ) (bs : List ℕ) (i lo hi : ℕ) → lo ≡ little (take n (drop i bs)) → hi ≡ little (take n (drop (i + n) bs)) → i + n ≤ length bs
-    → lo + 256 ^ n * hi ≡ little (take (n + n) (drop i bs))
-halves n bs i lo hi p q l =
-    ap₂ (λ (x y : ℕ). x + 256 ^ n * y) p (q ∙ ap (λ (x : List ℕ). little (take n x)) (sym (drop-drop n i bs)))
-    ∙ ap (λ (k : ℕ). little (take n (drop i bs)) + 256 ^ k * little (take n (drop n (drop i bs)))) (sym (length-take-le n (drop i bs) (simp length-drop (omega arith))))
-    ∙ sym (little_append (take n (drop i bs)) (take n (drop n (drop i bs))))
-    ∙ ap little (sym (take-add n n (drop i bs)))
-
-pub one_byte : (bs : List ℕ) (i : ℕ) → i + 1 ≤ length bs → get_or bs i 0 ≡ little (take 1 (drop i bs))
+-- the number that std's methods make of some bytes is the one that they stand for
+first_bytes : (k : ℕ) (bs : List ℕ) → k < length bs → sum_through (λ (i : ℕ). byte_worth i (slice_index bs i)) k ≡ little (take (k + 1) bs)
 unfolding little
-one_byte bs i h = sym (ap (λ (x : List ℕ). little (take 1 x)) (drop-cons bs i 0 (omega arith)) ∙ add-zero (get_or bs i 0))
+first_bytes zero [] h = absurd (not-suc-le-zero h)
+first_bytes zero (b ∷ bs) h = omega arith
+first_bytes (suc k) bs h =
+    ap₂ (λ (n m : ℕ). n + m) (first_bytes k bs (omega arith)) last
+    ∙ sym (little_append (take (k + 1) bs) (get_or bs (suc k) 0 ∷ []))
+    ∙ ap little (ap (λ (i : ℕ). take (k + 1) bs ++ get_or bs i 0 ∷ []) one_more ∙ sym (take_more bs (k + 1) 0 (omega arith)) ∙ ap (λ (i : ℕ). take (i + 1) bs) (sym one_more))
+  where
+    one_more : suc k ≡ k + 1
+    one_more = omega arith
+
+    last : get_or bs (suc k) 0 * 256 ^ suc k ≡ 256 ^ length (take (k + 1) bs) * little (get_or bs (suc k) 0 ∷ [])
+    last =
+        mul_comm (get_or bs (suc k) 0) (256 ^ suc k)
+        ∙ ap₂ (λ (i n : ℕ). 256 ^ i * n) (one_more ∙ sym (length-take-le (k + 1) bs (omega arith))) (sym (add-zero (get_or bs (suc k) 0)))
+
+pub number : (k : ℕ) (bs : List ℕ) → length bs ≡ suc k → sum_through (λ (i : ℕ). byte_worth i (slice_index bs i)) k ≡ little bs
+number k bs l = first_bytes k bs (omega arith) ∙ ap little (take_all (k + 1) bs (omega arith))
+
+-- the next word of four bytes; what is left comes to the same
+pub next_word : (bs : List ℕ) (ws : List (List ℕ)) (k i c d c' whole : ℕ) → Bytes bs → ws ≡ first_chunks 4 k bs → k ≡ length bs / 4 → i < k
+    → d ≡ sum_through (λ (j : ℕ). byte_worth j (slice_index (get_or ws i []) j)) 3 → c' ≡ shifts 32 (bit_xor c d)
+    → register c (drop (i * 4) bs) ≡ whole → register c' (drop ((i + 1) * 4) bs) ≡ whole
+next_word bs ws k i c d c' whole h p l n q r e =
+    ap (λ (j : ℕ). register c' (drop j bs)) (omega arith) ∙ some_bytes 4 bs (i * 4) c d c' whole h stands r e (omega arith)
+  where
+    stands : d ≡ little (take 4 (drop (i * 4) bs))
+    stands =
+        q
+        ∙ ap (λ (w : List ℕ). sum_through (λ (j : ℕ). byte_worth j (slice_index w j)) 3) (ap (λ (x : List (List ℕ)). get_or x i []) p ∙ chunk_at 4 k i [] bs n)
+        ∙ number 3 (take 4 (drop (i * 4) bs)) (length-take-le 4 (drop (i * 4) bs) (simp length-drop (omega arith)))
+
+one_byte : (bs : List ℕ) (i : ℕ) → i < length bs → get_or bs i 0 ≡ little (take 1 (drop i bs))
+unfolding little
+one_byte bs i h = sym (ap (λ (x : List ℕ). little (take 1 x)) (drop-cons bs i 0 h) ∙ add-zero (get_or bs i 0))
+
+-- .. or the next byte of those that fill no word
+pub next_byte : (bs rest : List ℕ) (m i c d c' whole : ℕ) → Bytes bs → rest ≡ drop m bs → i < length rest → d ≡ get_or rest i 0 → c' ≡ shifts 8 (bit_xor c d)
+    → register c (drop i rest) ≡ whole → register c' (drop (i + 1) rest) ≡ whole
+next_byte bs rest m i c d c' whole h p n q r e =
+    some_bytes 1 rest i c d c' whole (subst Bytes (sym p) (drop_bytes m bs h)) (q ∙ one_byte rest i n) r e (omega arith)

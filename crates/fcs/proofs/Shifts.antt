@@ -4,18 +4,20 @@ use mathlib.Core.Path.{◌≡◌, refl, sym, ap, ap₂, ◌∙◌}
 use Prim.Native.Nat.{ℕ, zero, suc, ◌+◌, ◌*◌, ◌/◌, ◌%◌, ◌^◌, ◌<◌}
 use native.Mathlib.Nat.{mod-lt, suc-add, zero-add, mul-one, mul_assoc, pow-suc, mul-div_cancel, mul-mod_left}
 use native.Mathlib.Omega.{arith}
-use lib.Bits.{bit_xor, differ}
-use lib.Pow.{split, pow_pos}
+use lib.Bits.{bit_xor, xor_lt}
+use lib.Pow.{split, pow_pos, shr_lt}
+use mir.Syntax.{w32}
+use mir.Val.{Fits}
 use Rattle.fcs.specs.Fcs.{fallen, shift, shifts}
-use Rattle.fcs.proofs.Xor.{xor, xor_half, xor_odd, swap, comm, zero_left, joined, not_bit}
+use Rattle.fcs.proofs.Xor.{xor, xor_half, xor_odd, swap, comm, zero_left, joined}
 
-fallen_xor : (x y : ℕ) → x < 2 → y < 2 → fallen (differ x y) ≡ xor (fallen x) (fallen y)
+fallen_xor : (x y : ℕ) → x < 2 → y < 2 → fallen (xor x y) ≡ xor (fallen x) (fallen y)
 unfolding fallen xor
 fallen_xor zero y hx hy = refl
 fallen_xor (suc zero) zero hx hy = refl
 fallen_xor (suc zero) (suc zero) hx hy = refl
-fallen_xor (suc zero) (suc (suc y)) hx hy = absurd (not_bit y hy)
-fallen_xor (suc (suc x)) y hx hy = absurd (not_bit x hx)
+fallen_xor (suc zero) (suc (suc y)) hx hy = omega arith
+fallen_xor (suc (suc x)) y hx hy = omega arith
 
 -- one shift, by its definition
 step : (c : ℕ) → shift c ≡ xor (fallen (c % 2)) (c / 2)
@@ -78,3 +80,7 @@ shifts_zero (suc n) = shifts_zero n
 pub shifts_halves : (w u v : ℕ) → u ≡ shifts 32 (w % 2 ^ 32) → v ≡ shifts 32 (bit_xor u (w / 2 ^ 32)) → v ≡ shifts 64 w
 unfolding xor shifts
 shifts_halves w u v p q = q ∙ ap (λ (x : ℕ). shifts 32 (xor x (w / 2 ^ 32))) p ∙ ap (λ (x : ℕ). shifts 32 x) (sym (shifts_split 32 0 w)) ∙ sym (shifts_add 32 32 w)
+
+-- the high half of a word that another is put on
+pub high_half : (a b : ℕ) → a < 2 ^ 64 → b < 2 ^ 64 → Fits w32 (bit_xor a b / 0x100000000)
+high_half a b h k = record { fits = shr_lt 32 32 (xor_lt 64 a b h k) }

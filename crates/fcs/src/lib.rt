@@ -6,18 +6,20 @@ ghost use Rattle.fcs.specs.Fcs.{register_of, fcs_of, right_fcs, hash_of};
 
 mod fold;
 mod table;
-mod words;
 
-// The register over some bytes; under 48 there is no word to fold.
-#[tactic(auto, unfolding(crate::specs::Fcs::register_of))]
+use crate::fold::Waiting;
+use crate::table::Table;
+
+// The register over some bytes: the last five words of eight bytes, and the bytes that fill none, are not folded.
+#[tactic(auto, using(crate::proofs::Long::by_words), unfolding(crate::specs::Fcs::register_of))]
 pub fn register_of(bytes: &[u8]) -> u32
     ensures { result ≡ register_of bytes.now }
 {
-    let t = table::nibbles();
-    if bytes.len() < 48 {
-        words::over_words(&t, bytes, 0, 0xFFFFFFFF)
-    } else {
-        fold::over_fives(&t, bytes)
+    let table = Table::new();
+    let (words, rest) = bytes.as_chunks::<8>();
+    match words.split_last_chunk::<5>() {
+        Some((far, near)) => Waiting::after(far).finish(&table, near, rest),
+        None => table.over(bytes, 0xFFFFFFFF),
     }
 }
 
@@ -34,11 +36,10 @@ pub fn fcs_of(bytes: &[u8]) -> u32
 pub fn right_fcs(frame: &[u8]) -> bool
     ensures { result ≡ right_fcs frame.now }
 {
-    if frame.len() < 4 {
-        return false;
+    match frame.split_last_chunk::<4>() {
+        Some((before, fcs)) => u32::from_le_bytes(*fcs) == fcs_of(before),
+        None => false,
     }
-    let n = frame.len() - 4;
-    words::word_at(frame, n) == fcs_of(&frame[..n])
 }
 
 // The hash of an address.

@@ -1,2 +1,3 @@
--- What is proved of this crate's contracts.
+-- What is proved of this crate's contracts, and the laws that the proofs cite.
+pub mod Alike
 pub mod One

@@ -10,6 +10,7 @@ use Rattle.ring.specs.declared.Ring.{Ring}
 use Rattle.ring.specs.declared.Descriptor.{Descriptor}
 use Rattle.ring.specs.declared.Found.{Found}
 use Rattle.ring.specs.declared.Found.TheVariants.{Outside, NotOwned, Owned}
+use Rattle.ring.proofs.Finding.{by_other}
 use Rattle.ring.specs.Descriptor.{look, by◌outside:◌not_owned:◌owned:◌}
 use Rattle.receive.specs.declared.Walked.{Walked}
 use Rattle.receive.specs.declared.Ending.{Ending}
@@ -17,9 +18,19 @@ use Rattle.receive.specs.declared.Ending.TheVariants.{Memory, Missed}
 use Rattle.ring.specs.Slots.{slots}
 use Rattle.ring.specs.Status.{STP}
 use Rattle.receive.specs.Walk.{walk, fill, walked}
-use Rattle.receive.specs.Inner.Step.{remaining, ending_of}
+use Rattle.receive.specs.Inner.Ends.{ending_of}
 
 -- the first slot is outside, or not owned
+module _ (found : Found) where
+  pub ends_outside : found ≡ Outside → ending_of found ≡ Memory
+  unfolding ending_of by◌outside:◌not_owned:◌owned:◌
+  ends_outside h = rw h
+
+  pub ends_other : (found ≡ Outside → ⊥) → ending_of found ≡ Missed
+  unfolding ending_of
+  ends_other h = by_other Memory Missed found h
+
+-- .. and the walk ends
 refused : (i : Slot) (m : List ℕ) (k : Descriptor → Bus Walked) (found : Found) → ((d : Descriptor) → found ≡ Owned d → ⊥)
     → run (by found outside: (done (walked Memory i)) not_owned: (done (walked Missed i)) owned: k) m
     ≡ record { answer = record { ending = ending_of found; slot = i }; memory = m }
@@ -57,8 +68,7 @@ module _ (r : Ring) (f : List ℕ) (end : ℕ) (m : List ℕ) (found : Found)
   walk_refused e h q = decided ∙ refused r.slot m _ found h ∙ ap (λ (y : Ending). record { answer = record { ending = y; slot = r.slot }; memory = m }) (sym q)
 
   -- it is owned
-  pub walk_owned : (d : Descriptor) (bits n : ℕ) (x : Ended Walked) → found ≡ Owned d → bits ≡ end → n ≡ slots r
-      → run (remaining (length m) r f bits (record { left = n; slot = r.slot; descriptor = d; from = 0; stp = STP })) m ≡ x
-      → run (walk (length m) r f end) m ≡ x
-  unfolding remaining by◌outside:◌not_owned:◌owned:◌
-  walk_owned d bits n x o b k e = decided ∙ rw (o, ← b, ← k) e
+  pub walk_owned : (d : Descriptor) (bits : ℕ) (x : Ended Walked) → found ≡ Owned d → bits ≡ end
+      → run (fill (length m) r f bits (slots r - 1) r.slot d f STP) m ≡ x → run (walk (length m) r f end) m ≡ x
+  unfolding by◌outside:◌not_owned:◌owned:◌
+  walk_owned d bits x o b e = decided ∙ rw (o, ← b) e

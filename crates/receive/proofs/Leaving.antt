@@ -1,13 +1,15 @@
 -- What becomes of one slot of a walk, by the ways through the code.
-use mathlib.Core.Path.{◌≡◌, sym, ap, ◌∙◌}
+use mathlib.Core.Path.{◌≡◌, refl, sym, ap, subst, ◌∙◌}
 use mathlib.Core.List.{List}
-use Prim.Native.Nat.{ℕ, ◌+◌, ◌*◌, ◌/◌, ◌%◌}
+use Prim.Native.Nat.{ℕ, ◌+◌, ◌*◌, ◌/◌, ◌%◌, ◌≤◌}
 use native.Mathlib.Nat.{mul-add-mod_self_left}
 use native.Mathlib.Omega.{arith}
-use lib.ListN.{length, set}
+use lib.ListN.{length, set, drop}
+use Rattle.std.specs.declared.ops.ControlFlow.TheVariants.{Continue}
+use Rattle.std.specs.ControlFlow.{ForContinue}
 use Rattle.bus.specs.Words.{bytes_of, overwritten}
-use Rattle.bus.specs.Bus.{Bus, done, bytes, run, ◌>>◌}
-use Rattle.bus.proofs.Run.{run_done, run_bytes, after}
+use Rattle.bus.specs.Bus.{Bus, bytes, run, ◌>>◌, ◌>>=◌}
+use Rattle.bus.proofs.Run.{run_bytes, after}
 use Rattle.ring.proofs.Finding.{by_outside, by_other, by_unowned}
 use Rattle.ring.specs.declared.Slot.{Slot}
 use Rattle.ring.specs.declared.Ring.{Ring}
@@ -15,31 +17,26 @@ use Rattle.ring.specs.declared.Descriptor.{Descriptor}
 use Rattle.ring.specs.declared.Found.{Found}
 use Rattle.ring.specs.declared.Found.TheVariants.{Outside, Owned}
 use Rattle.ring.specs.Slots.{next, place}
-use Rattle.ring.specs.Status.{ERR}
 use Rattle.ring.specs.Descriptor.{look, by◌outside:◌not_owned:◌owned:◌}
 use Rattle.receive.specs.declared.Walked.{Walked}
 use Rattle.receive.specs.declared.Ending.{Ending}
-use Rattle.receive.specs.declared.Ending.TheVariants.{Memory, Received, Cut}
-use Rattle.receive.specs.declared.Step.TheVariants.{Over, On}
-use Rattle.receive.specs.Status.{BUFF}
-use Rattle.receive.specs.Walk.{status, mcnt, leave, cut, merr, ended, beyond, walked}
-use Rattle.receive.specs.Inner.Step.{onward, stops_at}
+use Rattle.receive.specs.declared.Ending.TheVariants.{Memory, Received}
+use Rattle.receive.specs.declared.Current.{Current}
+use Rattle.receive.specs.Walk.{status, mcnt, leave, cut, merr, ended, beyond, fill, walked}
+use Rattle.receive.specs.Inner.Ends.{stops_at}
+use Rattle.receive.specs.Inner.Step.{Fits, passed}
 
 -- a status is byte 3 of its descriptor
-pub status_is : (r : Ring) (i : Slot) (s at : ℕ) (m : List ℕ) → at ≡ place r i
-    → run (status r i s) m ≡ record { answer = tt; memory = set m (at + 3) s }
+pub status_is : (r : Ring) (i : Slot) (s : ℕ) (m : List ℕ)
+    → run (status r i s) m ≡ record { answer = tt; memory = set m (place r i + 3) s }
 unfolding status run
-status_is r i s at m e = rw e
+status_is r i s m = refl
 
 -- a status is written, and the walk is over
-pub leave_is : (r : Ring) (i j : Slot) (s : ℕ) (e : Ending) (m m' : List ℕ)
-    → run (status r i s) m ≡ record { answer = tt; memory = m' } → j ≡ next r i
-    → run (leave r i s e) m ≡ record { answer = record { ending = e; slot = j }; memory = m' }
-unfolding leave ◌>>◌ walked
-leave_is r i j s e m m' w n =
-    after (status r i s) (λ a. done (record { ending = e; slot = next r i })) m m' tt w
-    ∙ run_done _ m'
-    ∙ ap (λ (j : Slot). record { answer = record { ending = e; slot = j }; memory = m' }) (sym n)
+pub leave_is : (r : Ring) (i : Slot) (s : ℕ) (e : Ending) (m : List ℕ)
+    → run (leave r i s e) m ≡ record { answer = record { ending = e; slot = next r i }; memory = (run (status r i s) m).memory }
+unfolding leave status run ◌>>◌ ◌>>=◌ walked
+leave_is r i s e m = refl
 
 -- a word's two bytes are those of its low sixteen bits
 low_word : (k : ℕ) → bytes_of 2 (k % 65536) ≡ bytes_of 2 k
@@ -52,60 +49,62 @@ low_word k =
     rw (low, high)
 
 -- the frame ends there
-pub ended_is : (r : Ring) (k end : ℕ) (i : Slot) (stp at : ℕ) (m m₁ m₂ : List ℕ) (w : Walked) → at ≡ place r i
-    → m₁ ≡ overwritten m (at + 6) (bytes_of 2 (k % 65536)) → run (leave r i (stp + end) Received) m₁ ≡ record { answer = w; memory = m₂ }
-    → run (ended r k end i stp) m ≡ record { answer = w; memory = m₂ }
+pub ended_is : (r : Ring) (k end : ℕ) (i : Slot) (stp : ℕ) (m : List ℕ)
+    → run (ended r k end i stp) m ≡ run (leave r i (stp + end) Received) (overwritten m (place r i + 6) (bytes_of 2 (k % 65536)))
 unfolding ended mcnt ◌>>◌
-ended_is r k end i stp at m m₁ m₂ w ea em el =
-    after (bytes (place r i + 6) (bytes_of 2 k)) (λ a. leave r i (stp + end) Received) m m₁ tt
-    (run_bytes (place r i + 6) (bytes_of 2 k) m ∙ ap (λ (l : List ℕ). record { answer = tt; memory = l }) (sym (em ∙ rw (ea, low_word k)))) ∙ el
+ended_is r k end i stp m =
+    after (bytes (place r i + 6) (bytes_of 2 k)) (λ a. leave r i (stp + end) Received) m _ tt (run_bytes (place r i + 6) (bytes_of 2 k) m)
+    ∙ rw (low_word k)
 
-module _ (r : Ring) (i : Slot) (stp : ℕ) (m m' : List ℕ) where
+module _ (r : Ring) (i : Slot) (stp : ℕ) (m : List ℕ) (found : Found) where
   -- the next one is outside, or not owned
-  pub stop_outside : (found : Found) (w : Walked) → found ≡ Outside
-      → run (leave r i stp Memory) m ≡ record { answer = w; memory = m' }
-      → run (stops_at r i stp found) m ≡ record { answer = w; memory = m' }
+  pub stop_outside : found ≡ Outside → run (stops_at r i stp found) m ≡ run (leave r i stp Memory) m
   unfolding merr stops_at
-  stop_outside found w h e = ap (λ (p : Bus Walked). run p m) (by_outside (merr r i stp) (cut r i stp) found h) ∙ e
+  stop_outside h = ap (λ (p : Bus Walked). run p m) (by_outside (merr r i stp) (cut r i stp) found h)
 
-  pub stop_other : (found : Found) (w : Walked) → (found ≡ Outside → ⊥)
-      → run (leave r i (stp + ERR + BUFF) Cut) m ≡ record { answer = w; memory = m' }
-      → run (stops_at r i stp found) m ≡ record { answer = w; memory = m' }
-  unfolding cut stops_at
-  stop_other found w h e = ap (λ (p : Bus Walked). run p m) (by_other (merr r i stp) (cut r i stp) found h) ∙ e
+  pub stop_other : (found ≡ Outside → ⊥) → run (stops_at r i stp found) m ≡ run (cut r i stp) m
+  unfolding stops_at
+  stop_other h = ap (λ (p : Bus Walked). run p m) (by_other (merr r i stp) (cut r i stp) found h)
 
-  module _ (j : Slot) (found : Found) (n : j ≡ next r i)
-      (l : run (look (length m) r j) m ≡ record { answer = found; memory = m })
-      (on : Slot → Descriptor → Bus Walked) where
-    -- what was found decides
-    decided : run (beyond (length m) r i stp on) m
-        ≡ run
-        (by found
-        outside: (merr r i stp)
-        not_owned: (cut r i stp)
-        owned: (λ e. status r i stp >> on j e))
-        m
-    unfolding beyond
-    decided =
-        rw (← n)
-        (after
-        (look (length m) r j)
-        (λ x. by x outside: (merr r i stp) not_owned: (cut r i stp) owned: (λ e. status r i stp >> on j e))
-        m
-        m
-        found
-        l)
+-- what was found at the next slot decides
+module _ (c : Current) (j : Slot) (m : List ℕ) (left : ℕ) (found : Found) (n : j ≡ next c.ring c.slot)
+    (l : run (look (length m) c.ring j) m ≡ record { answer = found; memory = m }) where
+  on : Slot → Descriptor → Bus Walked
+  on i d = fill (length m) c.ring c.frame.now c.end left i d (drop c.descriptor.count c.rest.now) 0
 
-    pub next_stops : (w : Walked) → ((d : Descriptor) → found ≡ Owned d → ⊥)
-        → run (stops_at r i stp found) m ≡ record { answer = w; memory = m' }
-        → run (beyond (length m) r i stp on) m ≡ run (onward (Over w) on) m'
-    unfolding onward stops_at
-    next_stops w h e =
-        decided
-        ∙ ap (λ (p : Bus Walked). run p m) (by_unowned (merr r i stp) (cut r i stp) (λ d. status r i stp >> on j d) found h)
-        ∙ e ∙ sym (run_done w m')
+  by_found : Found → Bus Walked
+  by_found x =
+      by x
+      outside: (merr c.ring c.slot c.stp)
+      not_owned: (cut c.ring c.slot c.stp)
+      owned: (λ e. status c.ring c.slot c.stp >> on j e)
 
-    pub next_goes : (d : Descriptor) → found ≡ Owned d → run (status r i stp) m ≡ record { answer = tt; memory = m' }
-        → run (beyond (length m) r i stp on) m ≡ run (onward (On j d) on) m'
-    unfolding onward by◌outside:◌not_owned:◌owned:◌ ◌>>◌
-    next_goes d f w = decided ∙ rw f (after (status r i stp) (λ a. on j d) m m' tt w)
+  decided : run (passed (length m) left c) m ≡ run (by_found found) m
+  unfolding passed beyond on by_found
+  decided = rw (← n) (after (look (length m) c.ring j) by_found m m found l)
+
+  pub next_stops : ((d : Descriptor) → found ≡ Owned d → ⊥)
+      → run (passed (length m) left c) m ≡ run (stops_at c.ring c.slot c.stp found) m
+  unfolding stops_at by_found
+  next_stops h =
+      decided
+      ∙ ap (λ (p : Bus Walked). run p m)
+      (by_unowned
+      (merr c.ring c.slot c.stp)
+      (cut c.ring c.slot c.stp)
+      (λ d. status c.ring c.slot c.stp >> on j d)
+      found
+      h)
+
+  pub next_goes : (d : Descriptor) (rest m' : List ℕ) → found ≡ Owned d
+      → run (status c.ring c.slot c.stp) m ≡ record { answer = tt; memory = m' }
+      → rest ≡ drop c.descriptor.count c.rest.now
+      → run (passed (length m) left c) m ≡ run (fill (length m) c.ring c.frame.now c.end left j d rest 0) m'
+  unfolding by◌outside:◌not_owned:◌owned:◌ ◌>>◌ on by_found
+  next_goes d rest m' f w e = decided ∙ rw (f, e) (after (status c.ring c.slot c.stp) (λ a. on j d) m m' tt w)
+
+-- .. where the next slot is found owned, and its descriptor is in the memory
+pub goes_to : (n : ℕ) (c : Current) → place c.ring c.slot + 8 ≤ n → ForContinue {B = Walked} (Continue c) (Fits n)
+goes_to n c h d e =
+    let q : c ≡ d = cc in
+    subst (Fits n) q (record { fits = h })

@@ -1,16 +1,17 @@
 // A frame's way through the receive ring.
 #![tactic(auto)]
 
-ghost use Rattle.std.specs.Prelude.{◌≡◌, ◌≤◌, ◌<◌, length};
+ghost use Rattle.std.specs.Prelude.{◌≡◌, ◌-◌, ◌≤◌, ◌<◌, ℕ, suc, length};
+ghost use Rattle.std.specs.ControlFlow.{ForContinue};
 ghost use Rattle.bus.specs.Bus.{Bus, run};
-ghost use Rattle.ring.specs.declared.Slot.{Slot};
-ghost use Rattle.ring.specs.declared.Descriptor.{Descriptor};
+ghost use Rattle.ring.specs.Slots.{slots};
 ghost use Rattle.ring.specs.Status.{STP};
 ghost use Rattle.receive.specs.Status.{end_status};
-ghost use Rattle.receive.specs.Walk.{walk, beyond, ended, leave, status};
-ghost use Rattle.receive.specs.Inner.Step.{onward, stops_at, ending_of, remaining, resumed, Onto, Fits, Kept, Goes};
+ghost use Rattle.receive.specs.Walk.{status, leave, cut, ended, walk};
+ghost use Rattle.receive.specs.Inner.Ends.{stops_at, ending_of};
 
 use ring::{Descriptor, ENP, ERR, Found, Ring, STP, Slot};
+use std::ops::ControlFlow;
 
 // The bits that only a receive status has.
 const FRAM: u8 = 0x20;
@@ -35,155 +36,177 @@ pub struct Walked {
     pub slot: Slot,
 }
 
-// The current slot of a walk: how many slots the frame may use from it on, its descriptor, how many bytes of the frame went
-// before, and its STP.
+// A walk at a slot that the card owns: its ring, the whole frame and the status where that ends, without STP; the slot, its
+// descriptor, what went into no buffer yet, and STP in the first slot.
 #[derive(Clone, Copy)]
-struct Current {
-    left: u32,
+struct Current<'a> {
+    ring: Ring,
+    frame: &'a [u8],
+    end: u8,
     slot: Slot,
     descriptor: Descriptor,
-    from: usize,
+    rest: &'a [u8],
+    // The bit and no flag: a status adds it.
     stp: u8,
+    ghost ends_released: { end < 128 },
+    ghost only_stp: { stp ≤ STP },
 }
 
-// What comes after a slot: the walk is over, or goes on with the next slot and its descriptor.
-#[derive(Clone, Copy)]
-enum Step {
-    Over(Walked),
-    On(Slot, Descriptor),
+// Each asks `Fits`. Tried: a struct that holds the memory too, with that as its fact. The proof didn't close: a method that writes through
+// such a struct is not covered.
+impl<'a> Current<'a> {
+    ghost use Rattle.receive.specs.Inner.Step.{Fits, onward, remaining, taken, passed};
+
+    // The slot takes a status.
+    #[tactic(auto, using(crate::proofs::Leaving::status_is))]
+    fn status(&self, memory: &mut [u8], bits: u8)
+        requires { Fits (length memory.old) self.now }
+        ensures { run (status self.now.ring self.now.slot bits) memory.old ≡ record { answer = tt; memory = memory.new } }
+    {
+        let at = self.ring.place(self.slot);
+        memory[at + 3] = bits;
+    }
+
+    // The slot takes a status, and the walk ends.
+    #[tactic(auto, using(crate::proofs::Leaving::leave_is))]
+    fn leave(&self, memory: &mut [u8], bits: u8, ending: Ending) -> Walked
+        requires { Fits (length memory.old) self.now }
+        ensures { run (leave self.now.ring self.now.slot bits ending) memory.old ≡ record { answer = result; memory = memory.new } }
+    {
+        self.status(memory, bits);
+        Walked {
+            ending,
+            slot: self.ring.next(self.slot),
+        }
+    }
+
+    // The frame is cut at the slot.
+    #[tactic(auto, unfolding(crate::specs::Walk::cut))]
+    fn cut(&self, memory: &mut [u8]) -> Walked
+        requires { Fits (length memory.old) self.now }
+        ensures { run (cut self.now.ring self.now.slot self.now.stp) memory.old ≡ record { answer = result; memory = memory.new } }
+    {
+        self.leave(memory, self.stp + ERR + BUFF, Ending::Cut)
+    }
+
+    // The frame ends at the slot.
+    #[tactic(auto, using(crate::proofs::Leaving::ended_is))]
+    fn ended(&self, memory: &mut [u8]) -> Walked
+        requires { Fits (length memory.old) self.now }
+        ensures { run (ended self.now.ring (length self.now.frame.now) self.now.end self.now.slot self.now.stp) memory.old ≡ record { answer = result; memory = memory.new } }
+    {
+        let at = self.ring.place(self.slot);
+        bus::put_word(memory, at + 6, (self.frame.len() % 65536) as u16);
+        self.leave(memory, self.stp + self.end, Ending::Received)
+    }
+
+    // The walk ends at the slot, since the next one is outside the memory or not owned.
+    #[tactic(auto, using(crate::proofs::Leaving::stop_outside, crate::proofs::Leaving::stop_other))]
+    fn stops_at(&self, memory: &mut [u8], found: Found) -> Walked
+        requires { Fits (length memory.old) self.now }
+        ensures { run (stops_at self.now.ring self.now.slot self.now.stp found) memory.old ≡ record { answer = result; memory = memory.new } }
+    {
+        match found {
+            Found::Outside => self.leave(memory, self.stp, Ending::Memory),
+            _ => self.cut(memory),
+        }
+    }
+
+    // The slot's buffer takes what fits of the frame, which ends there or not.
+    #[tactic(auto, using(crate::proofs::Filling::taken_outside, crate::proofs::Filling::taken_ends, crate::proofs::Filling::taken_goes))]
+    fn takes(&self, memory: &mut [u8]) -> ControlFlow<Walked>
+        requires { Fits (length memory.old) self.now }
+        ensures same_run { (otherwise : Bus Walked) → run (taken (length memory.old) self.now otherwise) memory.old ≡ run (onward result (λ _. otherwise)) memory.new }
+        ensures more { ForContinue result (λ _. self.now.descriptor.count < length self.now.rest.now) }
+    {
+        let at = self.descriptor.address as usize;
+        let count = self.descriptor.count as usize;
+        if memory.len() < at + count {
+            return ControlFlow::Break(Walked {
+                ending: Ending::Memory,
+                slot: self.slot,
+            });
+        }
+        let fits = count.min(self.rest.len());
+        bus::copy_bytes(self.rest, 0, fits, memory, at);
+        if self.rest.len() <= count {
+            return ControlFlow::Break(self.ended(memory));
+        }
+        ControlFlow::Continue(())
+    }
+
+    // The frame goes beyond the slot: the next one is read.
+    #[tactic(auto, using(crate::proofs::Leaving::next_stops, bus::proofs::Run::run_done), unfolding(crate::specs::Inner::Step::onward))]
+    fn beyond(&self, memory: &mut [u8]) -> ControlFlow<Walked, Self>
+        requires { Fits (length memory.old) self.now × (self.now.descriptor.count ≤ length self.now.rest.now) }
+        ensures same_run { (left : ℕ) → run (passed (length memory.old) left self.now) memory.old ≡ run (onward result (remaining (length memory.old) left)) memory.new }
+        ensures fits { ForContinue result (Fits (length memory.old)) }
+    {
+        let slot = self.ring.next(self.slot);
+        let found = ring::look(memory, self.ring, slot);
+        let Found::Owned(descriptor) = found else {
+            return ControlFlow::Break(self.stops_at(memory, found));
+        };
+        self.status(memory, self.stp);
+        let rest = &self.rest[self.descriptor.count as usize..];
+        ControlFlow::Continue(Self {
+            ring: self.ring,
+            frame: self.frame,
+            end: self.end,
+            slot,
+            descriptor,
+            rest,
+            stp: 0,
+        })
+    }
+
+    // The slot is filled, and the walk is over or at the next slot.
+    #[tactic(auto, using(crate::proofs::Filling::slot_over))]
+    fn fill_slot(&self, memory: &mut [u8]) -> ControlFlow<Walked, Self>
+        requires { Fits (length memory.old) self.now }
+        ensures same_run { (left : ℕ) → run (remaining (length memory.old) (suc left) self.now) memory.old ≡ run (onward result (remaining (length memory.old) left)) memory.new }
+        ensures fits { ForContinue result (Fits (length memory.old)) }
+    {
+        self.takes(memory)?;
+        self.beyond(memory)
+    }
+
+    // The walk from an owned slot on.
+    fn fill(&self, memory: &mut [u8]) -> Walked
+        requires { Fits (length memory.old) self.now }
+        ensures { run (remaining (length memory.old) (slots self.now.ring - 1) self.now) memory.old ≡ record { answer = result; memory = memory.new } }
+    {
+        let mut current = *self;
+        // each slot that the frame may use but the last, which has no next one for it
+        for _ in 1..self.ring.slots() {
+            match current.fill_slot(memory) {
+                ControlFlow::Break(walked) => return walked,
+                ControlFlow::Continue(next) => current = next,
+            }
+        }
+        match current.takes(memory) {
+            ControlFlow::Break(walked) => walked,
+            ControlFlow::Continue(()) => current.cut(memory),
+        }
+    }
 }
 
 // The status of the slot where the frame ends, without STP.
+#[tactic(auto, using(crate::proofs::EndStatus::end_extra), unfolding(crate::specs::Status::end_status))]
 fn end_status(right: bool, extra: u32) -> u8
     ensures { (result ≡ end_status right extra) × (result < 128) }
 {
-    if extra == 0 {
-        if right { ENP } else { ENP + ERR + CRC }
-    } else {
-        if right {
-            ENP + ERR + FRAM
-        } else {
-            ENP + ERR + CRC + FRAM
-        }
-    }
-}
-
-// A descriptor takes a status.
-fn status(memory: &mut [u8], ring: Ring, slot: Slot, bits: u8)
-    requires { Fits (length memory.old) ring slot }
-    ensures { run (status ring slot bits) memory.old ≡ record { answer = tt; memory = memory.new } }
-{
-    let at = ring.place(slot);
-    memory[at + 3] = bits;
-}
-
-// A slot takes its status, and the walk ends.
-fn leave(memory: &mut [u8], ring: Ring, slot: Slot, bits: u8, ending: Ending) -> Walked
-    requires { Fits (length memory.old) ring slot }
-    ensures { run (leave ring slot bits ending) memory.old ≡ record { answer = result; memory = memory.new } }
-{
-    status(memory, ring, slot, bits);
-    Walked {
-        ending,
-        slot: ring.next(slot),
-    }
-}
-
-// The frame, of `count` bytes, ends at a slot.
-fn ended(memory: &mut [u8], ring: Ring, count: usize, end: u8, slot: Slot, stp: u8) -> Walked
-    requires { Fits (length memory.old) ring slot × (stp ≤ STP) × (end < 128) }
-    ensures { run (ended ring count end slot stp) memory.old ≡ record { answer = result; memory = memory.new } }
-{
-    let at = ring.place(slot);
-    bus::put_word(memory, at + 6, (count % 65536) as u16);
-    leave(memory, ring, slot, stp + end, Ending::Received)
-}
-
-// The walk ends at a slot, since the next one is outside the memory or not owned.
-fn stops_at(memory: &mut [u8], ring: Ring, slot: Slot, stp: u8, found: Found) -> Walked
-    requires { Fits (length memory.old) ring slot × (stp ≤ STP) }
-    ensures { run (stops_at ring slot stp found) memory.old ≡ record { answer = result; memory = memory.new } }
-{
-    match found {
-        Found::Outside => leave(memory, ring, slot, stp, Ending::Memory),
-        _ => leave(memory, ring, slot, stp + ERR + BUFF, Ending::Cut),
-    }
-}
-
-// The frame goes beyond a slot: the next one is read.
-fn beyond(memory: &mut [u8], ring: Ring, slot: Slot, stp: u8) -> Step
-    requires { Fits (length memory.old) ring slot × (stp ≤ STP) }
-    ensures same_run { (on : Slot → Descriptor → Bus Walked) → run (beyond (length memory.old) ring slot stp on) memory.old ≡ run (onward result on) memory.new }
-    ensures onto { Onto result (Fits (length memory.old) ring) }
-{
-    let next = ring.next(slot);
-    let found = ring::look(memory, ring, next);
-    let Found::Owned(descriptor) = found else {
-        return Step::Over(stops_at(memory, ring, slot, stp, found));
-    };
-    status(memory, ring, slot, stp);
-    Step::On(next, descriptor)
-}
-
-// A slot's buffer takes what fits of the frame, and what comes after the slot is found out.
-#[tactic(auto, using(crate::proofs::Fills::fill_outside, crate::proofs::Fills::fill_ended, crate::proofs::Fills::fill_cut, crate::proofs::Fills::fill_goes, crate::proofs::Fills::fill_onto), unfolding(crate::specs::Inner::Step::Onto))]
-fn fill_slot(memory: &mut [u8], ring: Ring, current: Current, frame: &[u8], end: u8) -> Step
-    requires { Kept (length memory.old) ring frame.now current × (end < 128) }
-    ensures same_run { run (remaining (length memory.old) ring frame.now end current) memory.old ≡ run (onward result (resumed (length memory.old) ring frame.now end current)) memory.new }
-    ensures onto { Onto result (Goes (length memory.old) ring frame.now current) }
-{
-    let slot = current.slot;
-    let descriptor = current.descriptor;
-    let at = descriptor.address as usize;
-    let count = descriptor.count as usize;
-    let from = current.from;
-    let stp = current.stp;
-    if memory.len() < at + count {
-        return Step::Over(Walked {
-            ending: Ending::Memory,
-            slot,
-        });
-    }
-    let rest = frame.len() - from;
-    if rest <= count {
-        bus::copy_bytes(frame, from, rest, memory, at);
-        return Step::Over(ended(memory, ring, frame.len(), end, slot, stp));
-    }
-    bus::copy_bytes(frame, from, count, memory, at);
-    if current.left <= 1 {
-        return Step::Over(leave(memory, ring, slot, stp + ERR + BUFF, Ending::Cut));
-    }
-    beyond(memory, ring, slot, stp)
-}
-
-// The walk from an owned slot on.
-fn fill(memory: &mut [u8], ring: Ring, first: Current, frame: &[u8], end: u8) -> Walked
-    requires { Kept (length memory.old) ring frame.now first × (end < 128) }
-    ensures { run (remaining (length memory.old) ring frame.now end first) memory.old ≡ record { answer = result; memory = memory.new } }
-{
-    let r = ring;
-    let mut current = first;
-    loop {
-        let step = fill_slot(memory, r, current, frame, end);
-        match step {
-            Step::Over(walked) => return walked,
-            Step::On(slot, descriptor) => {
-                let left = current.left - 1;
-                let filled = current.descriptor;
-                let from = current.from + filled.count as usize;
-                current = Current {
-                    left,
-                    slot,
-                    descriptor,
-                    from,
-                    stp: 0,
-                };
-            }
-        }
+    match (right, extra) {
+        (true, 0) => ENP,
+        (true, _) => ENP + ERR + FRAM,
+        (false, 0) => ENP + ERR + CRC,
+        (false, _) => ENP + ERR + CRC + FRAM,
     }
 }
 
 // How a walk ends whose first slot is outside the memory or not owned.
+// No `From`: an owned slot is no end.
+#[tactic(auto, using(crate::proofs::Begins::ends_outside, crate::proofs::Begins::ends_other))]
 fn ending_of(found: Found) -> Ending
     ensures { result ≡ ending_of found }
 {
@@ -194,6 +217,7 @@ fn ending_of(found: Found) -> Ending
 }
 
 // A frame's way through the ring, from its current slot on.
+// Memory and ring come apart, since the caller lends the one and the card has the other.
 pub fn walk(memory: &mut [u8], ring: Ring, frame: &[u8], right: bool, extra: u32) -> Walked
     ensures { run (walk (length memory.old) ring frame.now (end_status right extra)) memory.old ≡ record { answer = result; memory = memory.new } }
 {
@@ -204,12 +228,13 @@ pub fn walk(memory: &mut [u8], ring: Ring, frame: &[u8], right: bool, extra: u32
         return Walked { ending, slot };
     };
     let first = Current {
-        left: ring.slots(),
+        ring,
+        frame,
+        end: end_status(right, extra),
         slot,
         descriptor,
-        from: 0,
+        rest: frame,
         stp: STP,
     };
-    let end = end_status(right, extra);
-    fill(memory, ring, first, frame, end)
+    first.fill(memory)
 }

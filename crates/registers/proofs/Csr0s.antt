@@ -4,6 +4,7 @@ use mathlib.Core.Bool.{Bool, true, false, not, ◌&&◌, ◌||◌, and-eq-true_i
 use Prim.Native.Nat.{ℕ, ◌+◌, ◌*◌, ◌/◌, ◌%◌}
 use native.Mathlib.Omega.{arith}
 use borrow.Author.Tests.{ne_eqb, not-true}
+use Rattle.std.proofs.lemmas.Bool.{or_parts}
 use Rattle.bus.specs.Bits.{bit, weigh}
 use Rattle.registers.specs.declared.Csr0.{Csr0}
 use Rattle.registers.specs.Bits.{MERR, IDON, IENA, RXON, TXON, TDMD, STOP, STRT, INIT, DRX, DTX}
@@ -17,26 +18,21 @@ pub data Kind (s : Csr0) : Type 0 where
   waiting : s.stop ≡ false → s.strt ≡ false → s.init ≡ true → s.rxon ≡ false → s.txon ≡ false → s.tdmd ≡ false → Kind s
   running : s.stop ≡ false → s.strt ≡ true → Kind s
 
--- where one or the other is false, both are
-neither : (a b : Bool) → (a || b) ≡ false → (a ≡ false) × (b ≡ false)
-neither true b e = let z : ◌≡◌ {A = Bool} true false = e in (e, cc)
-neither false b e = (refl, e)
-
 -- a state in which nothing but STOP is set
 alone : (s : Csr0) → s.stop ≡ true → others s ≡ false → s ≡ stopped
 alone s t h =
-    let init = neither _ _ h in
-    let strt = neither _ _ init.0 in
-    let tdmd = neither _ _ strt.0 in
-    let txon = neither _ _ tdmd.0 in
-    let rxon = neither _ _ txon.0 in
-    let iena = neither _ _ rxon.0 in
-    let idon = neither _ _ iena.0 in
-    let tint = neither _ _ idon.0 in
-    let rint = neither _ _ tint.0 in
-    let merr = neither _ _ rint.0 in
-    let miss = neither _ _ merr.0 in
-    let cerr = neither _ _ miss.0 in
+    let init = or_parts _ _ h in
+    let strt = or_parts _ _ init.0 in
+    let tdmd = or_parts _ _ strt.0 in
+    let txon = or_parts _ _ tdmd.0 in
+    let rxon = or_parts _ _ txon.0 in
+    let iena = or_parts _ _ rxon.0 in
+    let idon = or_parts _ _ iena.0 in
+    let tint = or_parts _ _ idon.0 in
+    let rint = or_parts _ _ tint.0 in
+    let merr = or_parts _ _ rint.0 in
+    let miss = or_parts _ _ merr.0 in
+    let cerr = or_parts _ _ miss.0 in
     λ i. record {
       babl = cerr.0 i;
       cerr = cerr.1 i;
@@ -60,8 +56,8 @@ kinds : (s : Csr0) (stop strt : Bool) → s.stop ≡ stop → s.strt ≡ strt �
 kinds s true strt p q a b c = still (alone s p (not-true _ a))
 kinds s false true p q a b c = running p q
 kinds s false false p q a b c =
-    let tdmd = neither _ _ (not-true _ c) in
-    let txon = neither _ _ tdmd.0 in
+    let tdmd = or_parts _ _ (not-true _ c) in
+    let txon = or_parts _ _ tdmd.0 in
     waiting p q b txon.0 txon.1 tdmd.1
 
 pub kind_of : (s : Csr0) → sound_csr0 s ≡ true → Kind s

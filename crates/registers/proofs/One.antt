@@ -5,7 +5,7 @@ use Rattle.registers.proofs.Csr0.word.Reads as word
 use Rattle.registers.proofs.Csr0.stopped.Reads as stopped
 use Rattle.registers.proofs.Csr0.changed.Reads as changed
 use Rattle.registers.proofs.Csr0.is_sound_csr0.Reads as is_sound_csr0
-use Rattle.registers.proofs.Csr0.csr0_of.Reads as csr0_of
+use Rattle.registers.proofs.control.Csr0FromU16.from.Reads as csr0_of
 use Rattle.registers.proofs.Csr0.cleared.Reads as cleared
 use Rattle.registers.proofs.Csr0.finished.Reads as finished
 use Rattle.registers.proofs.table.is_nowhere.Reads as is_nowhere

@@ -1,42 +1,13 @@
--- What a write to each row of the table leaves in the written registers, and that it leaves them settled.
+-- A write to any row of the table leaves the written registers settled.
 use mathlib.Core.Path.{◌≡◌}
-use mathlib.Core.Bool.{true, ◌&&◌, and-eq-true_iff}
+use mathlib.Core.Bool.{true, and-eq-true_iff}
 use Prim.Native.Nat.{ℕ, ◌+◌, ◌*◌, ◌/◌, ◌%◌, ◌<◌}
 use native.Mathlib.Omega.{arith}
 use lib.Dec.{eqb}
-use borrow.Author.Tests.{eq-eqb, ne_eqb, eqb-true}
+use borrow.Author.Tests.{eq-eqb, eqb-true}
 use Rattle.bus.proofs.Within.{so_if}
 use Rattle.registers.specs.declared.Written.{Written}
 use Rattle.registers.specs.Table.{SELECT, kept, keep, settled}
-
--- a write to RAP, CSR1, CSR2 and CSR3 puts what the row keeps of the word there
-module _ (w : Written) (r v k : ℕ) where
-  pub keep_rap : r ≡ SELECT → k ≡ kept r v → record { rap = k; csr1 = w.csr1; csr2 = w.csr2; csr3 = w.csr3 } ≡ keep w r v
-  unfolding keep
-  keep_rap h e = rw (e, h)
-
-  pub keep_csr1 : r ≡ 1 → k ≡ kept r v → record { rap = w.rap; csr1 = k; csr2 = w.csr2; csr3 = w.csr3 } ≡ keep w r v
-  unfolding keep
-  keep_csr1 h e = rw (e, h)
-
-  pub keep_csr2 : r ≡ 2 → k ≡ kept r v → record { rap = w.rap; csr1 = w.csr1; csr2 = k; csr3 = w.csr3 } ≡ keep w r v
-  unfolding keep
-  keep_csr2 h e = rw (e, h)
-
-  pub keep_csr3 : r ≡ 3 → k ≡ kept r v → record { rap = w.rap; csr1 = w.csr1; csr2 = w.csr2; csr3 = k } ≡ keep w r v
-  unfolding keep
-  keep_csr3 h e = rw (e, h)
-
--- .. and a write to another row changes none of them
-pub keep_none : (w : Written) (r v : ℕ) → (r ≡ SELECT → ⊥) → (r ≡ 1 → ⊥) → (r ≡ 2 → ⊥) → (r ≡ 3 → ⊥) → w ≡ keep w r v
-unfolding keep
-keep_none w r v a b c d = rw (ne_eqb r SELECT a, ne_eqb r 1 b, ne_eqb r 2 c, ne_eqb r 3 d)
-
--- the registers are settled where each keeps what it has
-pub settled_is : (w : Written) (a b c : ℕ) → a ≡ kept SELECT w.rap → b ≡ kept 2 w.csr2 → c ≡ kept 3 w.csr3
-    → (eqb a w.rap && eqb b w.csr2 && eqb c w.csr3) ≡ settled w
-unfolding settled
-settled_is w a b c ea eb ec = rw (ea, eb, ec)
 
 -- what a register keeps of a word it keeps whole
 again_rap : (v : ℕ) → kept SELECT (kept SELECT v) ≡ kept SELECT v
@@ -87,8 +58,3 @@ keep_settled w r v h =
       csr2 = so_if (λ (x : ℕ). kept 2 x ≡ x) (eqb r 2) _ _ (again_csr2 v) s.csr2;
       csr3 = so_if (λ (x : ℕ). kept 3 x ≡ x) (eqb r 3) _ _ (again_csr3 v) s.csr3;
     })
-
--- RAP, once settled, selects one of 128 rows
-pub settled_rap : (w : Written) → settled w ≡ true → w.rap < 128
-unfolding kept
-settled_rap w h = let e : w.rap % 128 ≡ w.rap = (of_settled w h).rap in omega arith

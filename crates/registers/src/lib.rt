@@ -46,6 +46,7 @@ const DTX: u16 = 0x0002;
 const DRX: u16 = 0x0001;
 
 // Offsets from the card's base.
+// Numbers and no enum: C passes them, and `Card::read` and `Card::write` answer for every number.
 pub const RDP: u32 = 0x10;
 
 pub const RAP: u32 = 0x12;
@@ -53,10 +54,12 @@ pub const RAP: u32 = 0x12;
 pub const RESET: u32 = 0x14;
 
 // RAP's own row in the table: no CSR has this number.
+// A number and no enum: `keep` is public, and takes a row by the number that RAP selects.
 pub const SELECT: u16 = 128;
 
 // The bits of CSR0 but ERR and INTR, which follow from the others.
-#[derive(Clone, Copy)]
+// Flags, since each is set and cleared by itself: one enum for all fourteen is no plainer.
+#[derive(Clone, Copy, PartialEq, Eq)]
 pub struct Csr0 {
     pub babl: bool,
     pub cerr: bool,
@@ -75,7 +78,7 @@ pub struct Csr0 {
 }
 
 // The registers that are written, but for CSR0.
-#[derive(Clone, Copy)]
+#[derive(Clone, Copy, PartialEq, Eq)]
 pub struct Written {
     pub rap: u16,
     pub csr1: u16,

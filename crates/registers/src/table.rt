@@ -8,53 +8,37 @@ use crate::{RAP, RDP, RESET, SELECT, Written};
 fn is_known(r: u16) -> bool
     ensures { result ≡ known r }
 {
-    (r == 0)
-        | (r == 1)
-        | (r == 2)
-        | (r == 3)
-        | (r == 8)
-        | (r == 9)
-        | (r == 10)
-        | (r == 11)
-        | (r == 12)
-        | (r == 13)
-        | (r == 14)
-        | (r == 15)
-        | (r == 24)
-        | (r == 25)
-        | (r == 30)
-        | (r == 31)
-        | (r == 72)
-        | (r == 74)
-        | (r == 76)
-        | (r == 78)
-        | (r == 88)
-        | (r == 89)
-        | (r == 112)
+    matches!(r, 0..=3 | 8..=15 | 24 | 25 | 30 | 31 | 72 | 74 | 76 | 78 | 88 | 89 | 112)
 }
 
 // Whether a CSR is never locked.
 fn is_free(r: u16) -> bool
     ensures { result ≡ free r }
 {
-    (r == 0) | (r == 88) | (r == 89) | (r == 112)
+    matches!(r, 0 | 88 | 89 | 112)
 }
 
 // Whether a CSR is written.
 fn is_writable(r: u16) -> bool
     ensures { result ≡ writable r }
 {
-    (r == 0) | (r == 1) | (r == 2) | (r == 3)
+    matches!(r, 0..=3)
 }
 
 // Whether there is no register at an offset.
+#[tactic(auto, unfolding(crate::specs::Table::no_register))]
 pub fn is_nowhere(rap: u16, offset: u32) -> bool
     ensures { result ≡ no_register rap offset }
 {
-    !(((offset == RDP) & is_known(rap)) | (offset == RAP) | (offset == RESET))
+    match offset {
+        RDP => !is_known(rap),
+        RAP | RESET => false,
+        _ => true,
+    }
 }
 
 // Whether the register at an offset is locked.
+#[tactic(auto, unfolding(crate::specs::Table::locked))]
 pub fn is_locked(stop: bool, rap: u16, offset: u32) -> bool
     ensures { result ≡ locked stop rap offset }
 {
@@ -62,6 +46,7 @@ pub fn is_locked(stop: bool, rap: u16, offset: u32) -> bool
 }
 
 // Whether the register at an offset only reads.
+#[tactic(auto, unfolding(crate::specs::Table::only_reads))]
 pub fn is_only_read(rap: u16, offset: u32) -> bool
     ensures { result ≡ only_reads rap offset }
 {
@@ -69,47 +54,36 @@ pub fn is_only_read(rap: u16, offset: u32) -> bool
 }
 
 // What a row keeps of a word.
+#[tactic(auto, unfolding(crate::specs::Table::kept))]
 fn kept(r: u16, v: u16) -> u16
     ensures { result ≡ kept r v }
 {
-    if r == SELECT {
-        return v % 128;
+    match r {
+        SELECT => v % 128,
+        2 => v % 256,
+        3 => v / 0x4000 % 2 * 0x4000 + v / 0x100 % 32 * 0x100,
+        _ => v,
     }
-    if r == 2 {
-        return v % 256;
-    }
-    if r == 3 {
-        return v / 0x4000 % 2 * 0x4000 + v / 0x100 % 32 * 0x100;
-    }
-    v
 }
 
 impl Written {
     // The written registers after a write of v to row r.
-    pub fn keep(mut self, r: u16, v: u16) -> Written
+    #[tactic(auto, unfolding(crate::specs::Table::keep))]
+    pub fn keep(self, r: u16, v: u16) -> Written
         ensures { result ≡ keep self r v }
     {
         let k = kept(r, v);
-        if r == SELECT {
-            self.rap = k;
-            return self;
+        match r {
+            SELECT => Written { rap: k, ..self },
+            1 => Written { csr1: k, ..self },
+            2 => Written { csr2: k, ..self },
+            3 => Written { csr3: k, ..self },
+            _ => self,
         }
-        if r == 1 {
-            self.csr1 = k;
-            return self;
-        }
-        if r == 2 {
-            self.csr2 = k;
-            return self;
-        }
-        if r == 3 {
-            self.csr3 = k;
-            return self;
-        }
-        self
     }
 
     // Whether each register has only bits that it keeps.
+    #[tactic(auto, unfolding(crate::specs::Table::settled))]
     pub fn is_settled(self) -> bool
         ensures { result ≡ settled self }
     {

@@ -3,10 +3,11 @@ ghost use Rattle.std.specs.Prelude.{◌≡◌};
 ghost use Rattle.registers.specs.Writing.{cleared, started, enabled, demanded, finished};
 
 use crate::{Csr0, DRX, DTX, IENA, RXON, STOP, STRT, TDMD, TXON};
-use bus::weigh;
+use bus::{bit, weigh};
 
 impl Csr0 {
     // The ones written in bits 14 to 8 clear those bits.
+    #[tactic(auto, unfolding(crate::specs::Writing::cleared))]
     pub fn cleared(self, v: u16) -> Csr0
         ensures { result ≡ cleared self v }
     {
@@ -14,12 +15,13 @@ impl Csr0 {
     }
 
     // STRT of a write, where the card is ready to start.
+    #[tactic(auto, unfolding(crate::specs::Writing::started))]
     fn started(self, mode: u16, ready: bool, v: u16) -> Csr0
         ensures { result ≡ started self mode ready v }
     {
-        if (v / STRT % 2 == 1) & !self.strt & ready {
-            let receiver = weigh(!(mode / DRX % 2 == 1), RXON);
-            let transmitter = weigh(!(mode / DTX % 2 == 1), TXON);
+        if bit(v, STRT) & !self.strt & ready {
+            let receiver = weigh(!bit(mode, DRX), RXON);
+            let transmitter = weigh(!bit(mode, DTX), TXON);
             self.changed(STRT + receiver + transmitter, STOP)
         } else {
             self
@@ -27,22 +29,25 @@ impl Csr0 {
     }
 
     // IENA of a write.
+    #[tactic(auto, unfolding(crate::specs::Writing::enabled))]
     fn enabled(self, v: u16) -> Csr0
         ensures { result ≡ enabled self v }
     {
-        let iena = weigh((v / IENA % 2 == 1) & !self.stop, IENA);
+        let iena = weigh(bit(v, IENA) & !self.stop, IENA);
         self.changed(iena, IENA)
     }
 
     // TDMD of a write.
+    #[tactic(auto, unfolding(crate::specs::Writing::demanded))]
     fn demanded(self, v: u16) -> Csr0
         ensures { result ≡ demanded self v }
     {
-        let tdmd = weigh((v / TDMD % 2 == 1) & self.txon, TDMD);
+        let tdmd = weigh(bit(v, TDMD) & self.txon, TDMD);
         self.changed(tdmd, 0)
     }
 
     // STRT, IENA and TDMD of a write.
+    #[tactic(auto, unfolding(crate::specs::Writing::finished))]
     pub fn finished(self, mode: u16, ready: bool, v: u16) -> Csr0
         ensures { result ≡ finished self mode ready v }
     {

@@ -8,15 +8,17 @@ mod offsets;
 mod table;
 
 use std::io;
+use tally::Tally;
 
 // Compares with STOP set and with STOP clear, and prints the tally.
 fn main(rt: HostRuntime) -> io::Result<()> {
-    let none = tally::none();
-    let stopped = cards::stopped();
-    let running = cards::running();
-    let t = accesses::run(none, stopped);
-    let t = accesses::run(t, running);
-    let t = offsets::run(t, stopped);
-    let t = offsets::run(t, running);
-    tally::tell(&rt, b"registers", t)
+    let mut t = Tally::none();
+    let cards = [cards::stopped(), cards::running()];
+    for c in cards {
+        t = accesses::run(t, c);
+    }
+    for c in cards {
+        t = offsets::run(t, c);
+    }
+    println!(rt; "registers {t}")
 }

@@ -1,18 +1,39 @@
 // The table: what document 01 says of each register, right after an initialization with the block of `cards`.
 
-// A letter for each register number from 0 to 127: `0` is CSR0, written and never locked; `w` is written, and locked while STOP is clear;
-// `r` only reads, and is locked while STOP is clear; `f` only reads and is never locked; `.` is no register.
-pub fn kind(r: u8) -> u8 {
-    let letters = b"0www....rrrrrrrr........rr....rr................................\
+// A letter for each register number from 0 to 127, as `Kind::of` reads them.
+const LETTERS: [u8; 128] = *b"0www....rrrrrrrr........rr....rr................................\
 ........r.r.r.r.........ff......................f...............";
-    if r < 128 {
-        return letters[r as usize];
+
+// What can be done with a register.
+#[derive(Clone, Copy)]
+enum Kind {
+    // CSR0: written, and never locked.
+    Control,
+    // Written, and locked while STOP is clear.
+    Written,
+    // Only reads, and is locked while STOP is clear.
+    Read,
+    // Only reads, and is never locked.
+    Fixed,
+    // No register.
+    Nothing,
+}
+
+impl Kind {
+    // The kind of a register number.
+    fn of(r: u8) -> Kind {
+        match LETTERS.get(usize::from(r)) {
+            Some(b'0') => Kind::Control,
+            Some(b'w') => Kind::Written,
+            Some(b'r') => Kind::Read,
+            Some(b'f') => Kind::Fixed,
+            _ => Kind::Nothing,
+        }
     }
-    b'.'
 }
 
 // The value that a register shows. CSR0 is 0004h with STOP set, and 0073h as the running card has it.
-pub fn value(r: u8, stop: bool) -> u16 {
+fn value(r: u8, stop: bool) -> u16 {
     match r {
         0 => control(stop),
         1 => 0x0011,
@@ -46,36 +67,24 @@ fn control(stop: bool) -> u16 {
     if stop { 0x0004 } else { 0x0073 }
 }
 
-// The refusal number of a read, or 0.
-pub fn read_number(r: u8, stop: bool) -> u8 {
-    match kind(r) {
-        b'0' => 0,
-        b'w' => unless(stop, 6),
-        b'r' => unless(stop, 6),
-        b'f' => 0,
-        _ => 7,
+// What a read gives: the value, or the number of its refusal.
+// A number here and below, and no `answers::Refusal`: the table is document 01's, and has its own numbers.
+pub fn read(r: u8, stop: bool) -> Result<u16, u8> {
+    match Kind::of(r) {
+        Kind::Nothing => Err(7),
+        Kind::Written | Kind::Read if !stop => Err(6),
+        _ => Ok(value(r, stop)),
     }
 }
 
-// The refusal number of a write, or 0. A locked register is refused with 6 though it only reads.
-pub fn write_number(r: u8, stop: bool) -> u8 {
-    match kind(r) {
-        b'0' => 0,
-        b'w' => unless(stop, 6),
-        b'r' => either(stop, 8, 6),
-        b'f' => 8,
-        _ => 7,
+// Whether a write is taken, or the number of its refusal. A locked register is refused with 6 though it only reads.
+pub fn write(r: u8, stop: bool) -> Result<(), u8> {
+    match Kind::of(r) {
+        Kind::Nothing => Err(7),
+        Kind::Written | Kind::Read if !stop => Err(6),
+        Kind::Read | Kind::Fixed => Err(8),
+        Kind::Control | Kind::Written => Ok(()),
     }
-}
-
-// Nothing where a condition holds, else a number.
-fn unless(b: bool, n: u8) -> u8 {
-    either(b, 0, n)
-}
-
-// One number or the other.
-fn either(b: bool, x: u8, y: u8) -> u8 {
-    if b { x } else { y }
 }
 
 // What CSR0 to CSR3 show after FFFFh was written: STOP makes CSR0 0004h, CSR2 keeps its low byte, CSR3 keeps bits 14, 12, 11, 10, 9 and 8.
@@ -90,11 +99,9 @@ pub fn after_ones(r: u8) -> u16 {
 
 // What CSR0 to CSR3 show after 0000h was written: of CSR0 only IENA goes, where STOP is clear.
 pub fn after_zeros(r: u8, stop: bool) -> u16 {
-    if r == 0 {
-        if stop {
-            return 0x0004;
-        }
-        return 0x0033;
+    match (r, stop) {
+        (0, true) => 0x0004,
+        (0, false) => 0x0033,
+        _ => 0,
     }
-    0
 }

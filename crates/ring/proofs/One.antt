@@ -8,10 +8,10 @@ use Rattle.ring.proofs.Ring.slot_shown.Reads as slot_shown
 use Rattle.ring.proofs.Ring.length_shown.Reads as length_shown
 use Rattle.ring.proofs.Ring.slots.Reads as slots
 use Rattle.ring.proofs.Ring.moved.Reads as moved
-use Rattle.ring.proofs.Ring.ring_words.Reads as ring_words
-use Rattle.ring.proofs.Ring.ring_of.Reads as ring_of
 use Rattle.ring.proofs.Ring.next.Reads as next
 use Rattle.ring.proofs.Ring.place.Reads as place
+use Rattle.ring.proofs.ArrayU164FromRing.from.Reads as ring_words
+use Rattle.ring.proofs.RingFromArrayU164.from.Reads as ring_of
 use Rattle.ring.proofs.described.Reads as described
 use Rattle.ring.proofs.look.Reads as look
 

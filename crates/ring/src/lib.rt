@@ -1,12 +1,12 @@
 // Rings of descriptors in lent memory: slots, counters, and reading a descriptor.
 #![tactic(auto)]
 
-ghost use Rattle.std.specs.Prelude.{◌≡◌, ◌+◌, ◌*◌, ◌≤◌, ◌<◌, length};
-ghost use Rattle.bus.specs.Words.{joined, part};
+ghost use Rattle.std.specs.Prelude.{◌≡◌, ◌+◌, ◌*◌, ◌≤◌, ◌<◌, length, get_or};
+ghost use Rattle.bus.specs.Words.{part};
 ghost use Rattle.bus.specs.Bus.{run};
 ghost use Rattle.ring.specs.Slots.{slots, slot_shown, length_shown, next, place, moved, ring_words, ring_of};
 ghost use Rattle.ring.specs.Loading.{none, from_words, kept_by_base, is_length, unloaded, loaded};
-ghost use Rattle.ring.specs.Descriptor.{count_of, described, look};
+ghost use Rattle.ring.specs.Descriptor.{described, look};
 
 // The bits that a status byte of either ring has.
 pub const OWN: u8 = 0x80;
@@ -18,15 +18,16 @@ pub const STP: u8 = 0x02;
 pub const ENP: u8 = 0x01;
 
 // A slot number counts from zero.
-#[derive(Clone, Copy)]
+#[derive(Clone, Copy, PartialEq, Eq)]
 pub struct Slot(pub u16);
 
 // A register's counter ends at minus one.
+// No From makes one of a slot: document 01 has it only by the rule that a ring states.
 #[derive(Clone, Copy)]
 pub struct Counter(pub u16);
 
 // Where a ring lies, how many slots it has and which is current.
-#[derive(Clone, Copy)]
+#[derive(Clone, Copy, PartialEq, Eq)]
 pub struct Ring {
     pub base: u32,
     pub length: u16,
@@ -42,6 +43,7 @@ pub struct Descriptor {
 }
 
 // What is found at a slot.
+// An enum, as document 01 wants, and no Option: outside and not owned are different things to all who look.
 #[derive(Clone, Copy)]
 pub enum Found {
     Outside,
@@ -53,7 +55,7 @@ pub enum Found {
 fn is_length(n: u16) -> bool
     ensures { result ≡ is_length n }
 {
-    (n == 1) | (n == 2) | (n == 4) | (n == 8) | (n == 16) | (n == 32) | (n == 64) | (n == 128)
+    matches!(n, 1 | 2 | 4 | 8 | 16 | 32 | 64 | 128)
 }
 
 // What a ring's base keeps of a number.
@@ -76,6 +78,8 @@ impl Ring {
     }
 
     // The ring that two words of the initialization block name.
+    // No From: the words' bits that a base drops are lost.
+    #[tactic(auto, unfolding(crate::specs::Loading::from_words))]
     pub fn from_words(low: u16, high: u16) -> Ring
         ensures { result ≡ from_words low high }
     {
@@ -92,10 +96,11 @@ impl Ring {
     pub fn is_unloaded(self) -> bool
         ensures { result ≡ unloaded self }
     {
-        (self.base == 0) & (self.length == 0) & (self.slot.0 == 0)
+        self == Ring::none()
     }
 
     // Whether a ring is one that an initialization can leave, at any of its slots.
+    #[tactic(auto, unfolding(crate::specs::Loading::loaded))]
     pub fn is_loaded(self) -> bool
         ensures { result ≡ loaded self }
     {
@@ -105,6 +110,7 @@ impl Ring {
     }
 
     // How many slots a ring has.
+    #[tactic(auto, unfolding(crate::specs::Slots::slots))]
     pub fn slots(self) -> u32
         ensures { (result ≡ slots self) × (result ≤ 65536) }
     {
@@ -126,6 +132,7 @@ impl Ring {
     }
 
     // The slot after a slot.
+    #[tactic(auto, unfolding(crate::specs::Slots::next))]
     pub fn next(self, slot: Slot) -> Slot
         ensures { result ≡ next self slot }
     {
@@ -138,6 +145,7 @@ impl Ring {
     }
 
     // Where the descriptor of a slot stands.
+    #[tactic(auto, unfolding(crate::specs::Slots::place))]
     pub fn place(self, slot: Slot) -> usize
         ensures { (result ≡ place self slot) × (result < 0x200000000) }
     {
@@ -145,29 +153,33 @@ impl Ring {
     }
 
     // The ring with another current slot.
-    pub fn moved(mut self, slot: Slot) -> Ring
+    pub fn moved(self, slot: Slot) -> Ring
         ensures { result ≡ moved self slot }
     {
-        self.slot = slot;
-        self
+        Ring { slot, ..self }
     }
+}
 
-    // The ring as four words: base low and high, length, slot.
-    pub fn ring_words(self) -> [u16; 4]
-        ensures { result ≡ ring_words self }
-    {
+// The ring as four words: base low and high, length, slot.
+impl From<Ring> for [u16; 4] {
+    ghost from_gives = { λ r words. words ≡ ring_words r };
+
+    fn from(ring: Ring) -> [u16; 4] {
         [
-            (self.base % 65536) as u16,
-            (self.base / 65536 % 65536) as u16,
-            self.length,
-            self.slot.0,
+            (ring.base % 65536) as u16,
+            (ring.base / 65536 % 65536) as u16,
+            ring.length,
+            ring.slot.0,
         ]
     }
+}
 
-    // The ring of four words.
-    pub fn ring_of(low: u16, high: u16, length: u16, slot: u16) -> Ring
-        ensures { result ≡ ring_of low high length slot }
-    {
+// The ring of four words.
+impl From<[u16; 4]> for Ring {
+    ghost from_gives = { λ words r. r ≡ ring_of (get_or words 0 0) (get_or words 1 0) (get_or words 2 0) (get_or words 3 0) };
+
+    fn from(words: [u16; 4]) -> Ring {
+        let [low, high, length, slot] = words;
         Ring {
             base: low as u32 + 65536 * (high as u32),
             length,
@@ -176,35 +188,22 @@ impl Ring {
     }
 }
 
-// The address in three bytes.
-fn address_of(low: u8, middle: u8, high: u8) -> u32
-    ensures { result ≡ joined low middle + 65536 * high }
-{
-    bus::joined(low, middle) as u32 + 65536 * (high as u32)
-}
-
-// The byte count in two bytes.
-fn count_of(low: u8, high: u8) -> u16
-    ensures { result ≡ count_of (joined low high) }
-{
-    4096 - bus::joined(low, high) % 4096
-}
-
 // What the descriptor at a place says.
+// A place and no slice of eight bytes: its clause speaks of a place in memory, as `look` and `transmit` do.
+#[tactic(auto, using(crate::proofs::Finding::described_bytes))]
 pub fn described(memory: &[u8], at: usize) -> Descriptor
     requires { at + 8 ≤ length memory.now }
     ensures { result ≡ described (part memory.now at 8) }
 {
-    let address = address_of(memory[at], memory[at + 1], memory[at + 2]);
-    let count = count_of(memory[at + 4], memory[at + 5]);
     Descriptor {
-        address,
+        address: u32::from_le_bytes([memory[at], memory[at + 1], memory[at + 2], 0]),
         status: memory[at + 3],
-        count,
+        count: 4096 - bus::joined(memory[at + 4], memory[at + 5]) % 4096,
     }
 }
 
 // What stands at a slot.
+// Memory and ring apart: one memory holds both rings, and the card has a ring of each kind.
 #[tactic(auto, using(crate::proofs::Finding::look_outside, crate::proofs::Finding::look_not_owned, crate::proofs::Finding::look_owned))]
 pub fn look(memory: &[u8], ring: Ring, slot: Slot) -> Found
     ensures { run (look (length memory.now) ring slot) memory.now ≡ record { answer = result; memory = memory.now } }

@@ -1,6 +1,6 @@
 -- Each act walked once: what it loads and stores, and that it gives back a sound state for a sound one, reports the line that CSR0 says
 -- and never refuses a sound state with 9.
-use Prim.Native.Nat.{ℕ, zero, suc, ◌+◌, ◌<◌}
+use Prim.Native.Nat.{ℕ, ◌+◌, ◌<◌}
 use native.Mathlib.Omega.{arith}
 use mathlib.Core.Path.{◌≡◌, refl, sym, ap, subst, ◌∙◌}
 use mathlib.Core.Bool.{Bool, true, false, not, ◌&&◌, ◌||◌, or-true}
@@ -8,6 +8,8 @@ use mathlib.Core.List.{List}
 use lib.ListN.{length}
 use lib.Dec.{leb}
 use borrow.Author.Tests.{ne_eqb}
+use Rattle.std.specs.Prelude.{Ok, Err}
+use Rattle.std.proofs.lemmas.Result.{IfErr-at_err}
 use Rattle.bus.specs.Bits.{bit, weigh}
 use Rattle.bus.specs.Bus.{Bus, Handed, empty_handed}
 use Rattle.bus.specs.Within.{Within}
@@ -32,9 +34,11 @@ use Rattle.transmit.specs.Turn.{turn}
 use Rattle.transmit.proofs.Touching.{TurnIn, turn_within}
 use Rattle.answers.specs.declared.Answer.{Answer}
 use Rattle.answers.specs.declared.Event.{Event}
-use Rattle.answers.specs.Refusals.{unless, read_number, write_number, arrive_number, turn_number}
+use Rattle.answers.specs.declared.Refusal.{Refusal}
+use Rattle.answers.specs.Answers.{answer_number}
+use Rattle.answers.specs.Refusals.{refusal_number, Tested, unless, read_tests, write_tests, arrive_tests, turn_tests}
 use Rattle.answers.specs.Events.{arrival_event, turn_event}
-use Rattle.answers.proofs.Numbers.{arrive_sound, turn_sound, read_never_9, write_never_9, arrive_never_9, turn_never_9}
+use Rattle.answers.proofs.Tests.{Never9, arrive_sound, turn_sound, read_never_9, write_never_9, arrive_never_9, turn_never_9}
 use Rattle.card.specs.declared.Card.{Card}
 use Rattle.card.specs.declared.Reply.{Reply}
 use Rattle.card.specs.State.{fresh, line}
@@ -47,20 +51,23 @@ use Rattle.statements.specs.Soundly.{Bytes, Soundly}
 use Rattle.statements.proofs.States.{Parts, apart, together, fresh_sound, Ready, ready, with_event}
 use Rattle.statements.proofs.Writing.{InBlock, Nothing, write_within}
 
--- by a call's number: a refusal, or what is so where nothing is refused
-so_unless : {A : Type 0} (P : A → Type 0) (n : ℕ) (f : ℕ → A) (x : A) → P (f n) → (n ≡ 0 → P x) → P (unless n f x)
+-- by a call's tests: a refusal, or what is so where nothing is refused
+so_unless : {A : Type 0} (P : A → Type 0) (k : Tested) (f : Refusal → A) (x : A) → ((r : Refusal) → k ≡ Err r → P (f r)) → (k ≡ Ok tt → P x)
+    → P (unless k f x)
 unfolding unless
-so_unless P zero f x p q = q refl
-so_unless P (suc n) f x p q = p
+so_unless P (Ok _) f x p q = q refl
+so_unless P (Err r) f x p q = p r refl
 
 -- an answer, and a refusal
-replied_soundly : (c : Card) (a : Answer) → a.number ≡ 0 → sound c ≡ true → Soundly (replied c a)
+replied_soundly : (c : Card) (a : Answer) → answer_number a ≡ 0 → sound c ≡ true → Soundly (replied c a)
 unfolding replied
 replied_soundly c a h e = record { state = e; level = refl; number = omega arith }
 
-refused_soundly : (c : Card) (n : ℕ) → (n ≡ 9 → ⊥) → sound c ≡ true → Soundly (refused c n)
+refused_soundly : (c : Card) (k : Tested) (r : Refusal) → k ≡ Err r → Never9 k → sound c ≡ true → Soundly (refused c r)
 unfolding refused
-refused_soundly c n h e = record { state = e; level = ap (λ (b : Bool). not b && line c) (ne_eqb n 9 h); number = h }
+refused_soundly c k r t h e =
+    let other : refusal_number r ≡ 9 → ⊥ = IfErr-at_err (λ q. refusal_number q ≡ 9 → ⊥) t h in
+    record { state = e; level = ap (λ (b : Bool). not b && line c) (ne_eqb (refusal_number r) 9 other); number = other }
 
 -- reset
 pub resetting_sound : Soundly resetting
@@ -72,7 +79,7 @@ pub reading_sound : (c : Card) (offset : ℕ) → sound c ≡ true → Soundly (
 unfolding reading read_at
 reading_sound c offset e =
     so_unless Soundly (read_refusal c offset) _ _
-    (refused_soundly c _ (subst (λ (s : Bool). read_number s (no_register c.written.rap offset) (locked c.csr0.stop c.written.rap offset) ≡ 9 → ⊥) (sym e) (read_never_9 _ _)) e)
+    (λ r t. refused_soundly c _ r t (subst (λ (s : Bool). Never9 (read_tests s (no_register c.written.rap offset) (locked c.csr0.stop c.written.rap offset))) (sym e) (read_never_9 _ _)) e)
     (λ z. so_if Soundly _ _ _ (replied_soundly fresh _ refl fresh_sound) (so_if Soundly _ _ _ (replied_soundly c _ refl e) (replied_soundly c _ refl e)))
 
 -- a write
@@ -84,7 +91,7 @@ pub writing_within : (c : Card) (n offset v : ℕ) (m : List ℕ)
 unfolding writing
 writing_within c n offset v m =
     so_unless (λ (p : Bus Reply). Within (InBlock c) Nothing (Wrote c m) p m) (write_refusal c n offset) _ _
-    (within_done (InBlock c) Nothing (Wrote c m) _ m (λ b e. refused_soundly c _ (subst (λ (s : Bool). write_number s n (no_register c.written.rap offset) (locked c.csr0.stop c.written.rap offset) (only_reads c.written.rap offset) ≡ 9 → ⊥) (sym e) (write_never_9 n _ _ _)) e))
+    (λ r t. within_done (InBlock c) Nothing (Wrote c m) _ m (λ b e. refused_soundly c _ r t (subst (λ (s : Bool). Never9 (write_tests s n (no_register c.written.rap offset) (locked c.csr0.stop c.written.rap offset) (only_reads c.written.rap offset))) (sym e) (write_never_9 n _ _ _)) e))
     (λ z. within_then (InBlock c) Nothing (λ m' d. Bytes m → Parts c → Parts d) (Wrote c m) _ _ m (write_within c n v m offset)
     (λ d m' r p. within_done _ _ (Wrote c m) _ m' (λ b e. replied_soundly d _ refl (together d (p b (apart c e))))))
 
@@ -130,7 +137,7 @@ pub arriving_within : (c : Card) (n : ℕ) (f : List ℕ) (extra : ℕ) (m : Lis
 unfolding arriving arrival take_in
 arriving_within c n f extra m =
     so_unless Ok (arrive_refusal c n (length f) extra) _ _
-    (within_done _ _ _ _ m (λ e. refused_soundly c _ (subst (λ (s : Bool). arrive_number s n (length f) extra ≡ 9 → ⊥) (sym e) (arrive_never_9 n (length f) extra)) e))
+    (λ r t. within_done _ _ _ _ m (λ e. refused_soundly c _ r t (subst (λ (s : Bool). Never9 (arrive_tests s n (length f) extra)) (sym e) (arrive_never_9 n (length f) extra)) e))
     (λ z. so_where Ok c.csr0.rxon _ _
     (λ on. so_if Ok _ _ _ (within_done _ _ _ _ m (replied_soundly c _ refl))
     (so_if Ok _ _ _ (took (arrive_sound (sound c) n (length f) extra z) (ap (λ (b : Bool). b || c.csr0.txon) on)) (within_done _ _ _ _ m (replied_soundly c _ refl))))
@@ -151,7 +158,7 @@ pub turning_within : (c : Card) (n out : ℕ) (w : Report) (m : List ℕ)
 unfolding turning turn_if_on take_turn empty_handed
 turning_within c n out w m =
     so_unless Ok (turn_refusal c n out w.result) _ _
-    (within_done _ _ _ _ m (λ e. refused_soundly c _ (subst (λ (s : Bool). turn_number s n out w.result ≡ 9 → ⊥) (sym e) (turn_never_9 n out w.result)) e))
+    (λ r t. within_done _ _ _ _ m (λ e. refused_soundly c _ r t (subst (λ (s : Bool). Never9 (turn_tests s n out w.result)) (sym e) (turn_never_9 n out w.result)) e))
     (λ z. so_where Ok c.csr0.txon _ _
     (λ on. took (turn_sound (sound c) n out w.result z) (ap (λ (b : Bool). c.csr0.rxon || b) on ∙ or-true c.csr0.rxon))
     (λ off. within_done _ _ _ _ m (replied_soundly c _ refl)))

@@ -13,7 +13,7 @@ use Rattle.registers.specs.Table.{RDP}
 use Rattle.card.specs.declared.Card.{Card}
 use Rattle.card.specs.declared.Reply.{Reply}
 use Rattle.card.specs.State.{state_of, with, fresh}
-use Rattle.answers.specs.Answers.{RECEIVED, CUT, SENT, FAILED}
+use Rattle.answers.specs.Answers.{RECEIVED, CUT, SENT, FAILED, answer_word}
 use Rattle.card.specs.Acts.{writing}
 use Rattle.card.specs.Arrival.{arriving}
 use Rattle.card.specs.Turning.{turning}
@@ -72,13 +72,13 @@ bytes_at m (a ∷ at) = get_or m a 0 ∷ bytes_at m at
 unfoldable pub arrived : ℕ → List ℕ → List ℕ → List ℕ → List ℕ
 arrived slots m f at =
     let e = run (arriving (running slots) (length m) f 0) m in
-    e.answer.answer.word ∷ bytes_at e.memory at
+    answer_word e.answer.answer ∷ bytes_at e.memory at
 
 -- .. and after a turn with a wire report, of a ring of one slot
 unfoldable pub sent : ℕ → List ℕ → List ℕ → List ℕ
 sent report m at =
     let e = run (turning (running 1) (length m) 4100 (record { result = report; deferred = false; noheartbeat = false })) m in
-    e.answer.answer.answer.word ∷ bytes_at e.memory at
+    answer_word e.answer.answer.answer ∷ bytes_at e.memory at
 
 -- one descriptor with STP and ENP, of 4 bytes (FFCh)
 unfoldable pub one_to_send : List ℕ

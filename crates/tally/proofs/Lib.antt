@@ -1,4 +1,3 @@
 -- The laws that the proofs of this crate cite, and what is proved of its contracts.
-pub mod Counts
 pub mod Alike
 pub mod One

@@ -1,7 +1,7 @@
 -- Each contract of the crate tally leaves one answer.
 use Rattle.bus.proofs.Only.{Only, equation}
-use Rattle.tally.proofs.none.Reads as none
-use Rattle.tally.proofs.with.Reads as with_one
+use Rattle.tally.proofs.Tally.none.Reads as none
+use Rattle.tally.proofs.Tally.with.Reads as with_one
 use Rattle.tally.proofs.same.Reads as same
 
 -- the tally before the first

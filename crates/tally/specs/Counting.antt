@@ -1,5 +1,6 @@
--- What a program compares, and its tally.
-use Rattle.std.specs.Prelude.{ℕ, ◌+◌, ◌%◌, ◌^◌, Bool, true, false, ◌&&◌, List, [], ◌∷◌, ◌==◌}
+-- What a program compares, its tally, and how the tally is printed.
+use Rattle.std.specs.Prelude.{ℕ, ◌+◌, ◌%◌, ◌^◌, Bool, true, false, ◌&&◌, List, [], ◌∷◌, ◌++◌, ◌==◌, codes}
+use Rattle.std.specs.Fmt.{decimal}
 use Rattle.tally.specs.declared.Tally.{Tally}
 
 -- nothing yet
@@ -10,6 +11,10 @@ nothing = record { run = 0; wrong = 0 }
 unfoldable pub one_more : Tally → Bool → Tally
 one_more t true = record { run = (t.run + 1) % 2 ^ 64; wrong = t.wrong }
 one_more t false = record { run = (t.run + 1) % 2 ^ 64; wrong = (t.wrong + 1) % 2 ^ 64 }
+
+-- how many, the word, how many wrong
+abbrev pub told : Tally → List ℕ
+told t = decimal t.run ++ (codes " wrong " ++ decimal t.wrong)
 
 -- whether two lists are the same
 unfoldable pub alike : List ℕ → List ℕ → Bool

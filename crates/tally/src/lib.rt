@@ -1,11 +1,10 @@
-// The tally of a program that compares, the one line that it prints, and whether bytes are the same.
+// The tally of a program that compares, the text that it prints, and whether bytes are the same.
 #![tactic(auto)]
 
-ghost use Rattle.std.specs.Prelude.{◌≡◌};
-ghost use Rattle.tally.specs.Counting.{nothing, one_more, alike};
+ghost use Rattle.std.specs.Prelude.{◌≡◌, Some};
+ghost use Rattle.tally.specs.Counting.{nothing, one_more, alike, told};
 
-use std::io;
-use std::io::Write;
+use std::fmt;
 
 // How many things were compared, and how many of them came out wrong.
 #[derive(Clone, Copy)]
@@ -14,49 +13,43 @@ pub struct Tally {
     pub wrong: u64,
 }
 
-// The tally before the first.
-pub fn none() -> Tally
-    ensures { result ≡ nothing }
-{
-    Tally { run: 0, wrong: 0 }
-}
-
-// The tally with one more.
-pub fn with(t: Tally, right: bool) -> Tally
-    ensures { result ≡ one_more t right }
-{
-    let run = std::num::wrapping_add_u64(t.run, 1);
-    if right {
-        return Tally {
-            run,
-            wrong: t.wrong,
-        };
+impl Tally {
+    // The tally before the first.
+    pub fn none() -> Tally
+        ensures { result ≡ nothing }
+    {
+        Tally { run: 0, wrong: 0 }
     }
-    let wrong = std::num::wrapping_add_u64(t.wrong, 1);
-    Tally { run, wrong }
+
+    // The tally with one more.
+    #[tactic(auto, unfolding(crate::specs::Counting::one_more))]
+    pub fn with(self, right: bool) -> Tally
+        ensures { result ≡ one_more self right }
+    {
+        let run = self.run.wrapping_add(1);
+        if right {
+            return Tally { run, ..self };
+        }
+        let wrong = self.wrong.wrapping_add(1);
+        Tally { run, wrong }
+    }
 }
 
-// Prints the name of what was compared and the tally. What is printed is outside the logic; a program's file `stdout` has it.
-pub fn tell(rt: &impl Print, name: &[u8], t: Tally) -> io::Result<()> {
-    io::writer(rt).write_all(name)?;
-    let run = t.run;
-    let wrong = t.wrong;
-    println!(rt; " {run} wrong {wrong}")
+// How many were run and how many of them were wrong, as a program's line ends.
+impl fmt::Display for Tally {
+    ghost output = { λ t. Some (told t) };
+
+    fn fmt<W: fmt::Write>(&self, f: &mut fmt::Formatter<W>) -> fmt::Result {
+        let Tally { run, wrong } = *self;
+        write!(f, "{run} wrong {wrong}")
+    }
 }
 
 // Whether two slices have the same bytes.
+// A function of its own for `==`: the edits differing_bytes_same and first_byte_passed_over hold it.
+#[tactic(auto, using(crate::proofs::Alike::slices_alike))]
 pub fn same(a: &[u8], b: &[u8]) -> bool
     ensures { result ≡ alike a.now b.now }
 {
-    if a.len() != b.len() {
-        return false;
-    }
-    let mut i = 0;
-    while i < a.len() {
-        if a[i] != b[i] {
-            return false;
-        }
-        i += 1;
-    }
-    true
+    a == b
 }

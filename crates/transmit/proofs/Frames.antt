@@ -2,8 +2,8 @@
 use mathlib.Core.Path.{◌≡◌, sym, ap, ◌∙◌}
 use mathlib.Core.List.{List, [], ◌++◌}
 use mathlib.Core.Bool.{Bool, true, false}
-use Prim.Native.Nat.{ℕ, suc, ◌+◌, ◌-◌, ◌*◌, ◌/◌, ◌%◌, ◌≤◌, ◌<◌}
-use native.Mathlib.Nat.{zero-add, sub-zero, mul-add-mod_self_left, div-div-eq-div-mul}
+use Prim.Native.Nat.{ℕ, suc, ◌+◌, ◌-◌, ◌≤◌, ◌<◌}
+use native.Mathlib.Nat.{zero-add}
 use native.Mathlib.Omega.{arith}
 use lib.ListN.{length, take, length-append}
 use Rattle.fcs.specs.Fcs.{fcs_of}
@@ -18,20 +18,6 @@ use Rattle.ring.specs.Places.{descriptor}
 use Rattle.chain.specs.Inner.Laid.{later, buffer, buffers, Inside, Laid}
 use Rattle.transmit.specs.Turn.{with_fcs}
 use Rattle.bus.proofs.Bytes.{written_more, take_written}
-
--- four bytes are two words
-four_bytes : (x : ℕ) → bytes_of 2 (x % 65536) ++ bytes_of 2 (x / 65536 % 65536) ≡ bytes_of 4 x
-unfolding bytes_of
-four_bytes x =
-    let a : x % 65536 % 256 ≡ x % 256 = omega arith in
-    let b : x / 256 ≡ 256 * (x / 65536) + x % 65536 / 256 = omega arith in
-    let c : x % 65536 / 256 % 256 ≡ x / 256 % 256 = sym (ap (λ (y : ℕ). y % 256) b ∙ mul-add-mod_self_left 256 (x / 65536) (x % 65536 / 256)) in
-    let d : x / 256 / 256 ≡ x / 65536 = div-div-eq-div-mul x 256 256 in
-    let e : x / 65536 % 65536 % 256 ≡ x / 65536 % 256 = omega arith in
-    let f : x / 65536 / 256 ≡ 256 * (x / 65536 / 65536) + x / 65536 % 65536 / 256 = omega arith in
-    let g : x / 65536 % 65536 / 256 % 256 ≡ x / 65536 / 256 % 256 =
-    sym (ap (λ (y : ℕ). y % 256) f ∙ mul-add-mod_self_left 256 (x / 65536 / 65536) (x / 65536 % 65536 / 256)) in
-    rw (a, c, d, e, g)
 
 -- a slot's buffer, by the descriptor d that was read at p
 module _ (m : List ℕ) (ring : Ring) (p : ℕ) (i : Slot) (d : Descriptor) (ep : p ≡ place ring i) (ed : d ≡ described (part m p 8)) where
@@ -59,43 +45,43 @@ module _ (m : List ℕ) (ring : Ring) (p : ℕ) (i : Slot) (d : Descriptor) (ep 
     pub buffer_written : (out' : List ℕ) → out' ≡ overwritten out at (part m d.address d.count) → out' ≡ overwritten out at (buffer m ring i)
     buffer_written out' e = e ∙ ap (overwritten out at) is_buffer
 
--- the first of some slots, and the rest
-module _ (m : List ℕ) (ring : Ring) (left : ℕ) (i : Slot) (h : 0 < left) where
-  pub laid_first : Laid m ring left i → Inside m ring i
+-- the first of the slots that are left after k of them, and the rest
+module _ (m : List ℕ) (ring : Ring) (all k : ℕ) (i : Slot) (h : k < all) where
+  pub laid_first : Laid m ring (all - k) i → Inside m ring i
   unfolding later
-  laid_first l = l.at 0 h
+  laid_first l = l.at 0 (omega arith)
 
-  pub laid_rest : (j : Slot) → Laid m ring left i → j ≡ next ring i → Laid m ring (left - 1) j
+  pub laid_rest : (j : Slot) → Laid m ring (all - k) i → j ≡ next ring i → Laid m ring (all - (k + 1)) j
   unfolding later
   laid_rest j l e = rw e (record { at = λ x y. l.at (suc x) (omega arith) })
 
-  buffers_split : buffers m ring left i ≡ buffer m ring i ++ buffers m ring (left - 1) (next ring i)
+  buffers_split : buffers m ring (all - k) i ≡ buffer m ring i ++ buffers m ring (all - (k + 1)) (next ring i)
   unfolding buffers
-  buffers_split = let e : left ≡ suc (left - 1) = omega arith in ap (λ (k : ℕ). buffers m ring k i) e
+  buffers_split = let e : all - k ≡ suc (all - (k + 1)) = omega arith in ap (λ (x : ℕ). buffers m ring x i) e
 
-  buffers_long : length (buffers m ring left i) ≡ length (buffer m ring i) + length (buffers m ring (left - 1) (next ring i))
-  buffers_long = ap length buffers_split ∙ length-append (buffer m ring i) (buffers m ring (left - 1) (next ring i))
+  buffers_long : length (buffers m ring (all - k) i) ≡ length (buffer m ring i) + length (buffers m ring (all - (k + 1)) (next ring i))
+  buffers_long = ap length buffers_split ∙ length-append (buffer m ring i) (buffers m ring (all - (k + 1)) (next ring i))
 
   -- n is the whole frame's length, and w what the slice comes to
-  module _ (at n : ℕ) (out w : List ℕ) (sum : at + length (buffers m ring left i) ≡ n)
-      (whole : overwritten out at (buffers m ring left i) ≡ w) where
+  module _ (at n : ℕ) (out w : List ℕ) (sum : at + length (buffers m ring (all - k) i) ≡ n)
+      (whole : overwritten out at (buffers m ring (all - k) i) ≡ w) where
     pub gather_room : (out₀ : List ℕ) → n ≤ length out₀ → length out ≡ length out₀ → at + length (buffer m ring i) ≤ length out
     gather_room out₀ l e = omega (arith, buffers_long)
 
     module _ (at' : ℕ) (j : Slot) (ea : at' ≡ at + length (buffer m ring i)) (ej : j ≡ next ring i) where
-      pub gather_sum : at' + length (buffers m ring (left - 1) j) ≡ n
+      pub gather_sum : at' + length (buffers m ring (all - (k + 1)) j) ≡ n
       gather_sum = rw ej (omega (arith, buffers_long))
 
-      pub gather_on : (out' : List ℕ) → out' ≡ overwritten out at (buffer m ring i) → overwritten out' at' (buffers m ring (left - 1) j) ≡ w
+      pub gather_on : (out' : List ℕ) → out' ≡ overwritten out at (buffer m ring i) → overwritten out' at' (buffers m ring (all - (k + 1)) j) ≡ w
       gather_on out' eo =
           rw (eo, ea, ej) (written_more (buffer m ring i) _ out at ∙ ap (overwritten out at) (sym buffers_split) ∙ whole)
 
 -- .. and where no slot is left
-module _ (m : List ℕ) (ring : Ring) (left : ℕ) (i : Slot) (at n : ℕ) (out w : List ℕ) (h : left ≤ 0)
-    (sum : at + length (buffers m ring left i) ≡ n) (whole : overwritten out at (buffers m ring left i) ≡ w) where
-  none : buffers m ring left i ≡ []
+module _ (m : List ℕ) (ring : Ring) (all k : ℕ) (i : Slot) (at n : ℕ) (out w : List ℕ) (h : all ≤ k)
+    (sum : at + length (buffers m ring (all - k) i) ≡ n) (whole : overwritten out at (buffers m ring (all - k) i) ≡ w) where
+  none : buffers m ring (all - k) i ≡ []
   unfolding buffers
-  none = let e : left ≡ 0 = omega arith in ap (λ (k : ℕ). buffers m ring k i) e
+  none = let e : all - k ≡ 0 = omega arith in ap (λ (x : ℕ). buffers m ring x i) e
 
   pub gather_end : at ≡ n
   gather_end = omega (arith, ap length none)
@@ -104,13 +90,10 @@ module _ (m : List ℕ) (ring : Ring) (left : ℕ) (i : Slot) (at n : ℕ) (out 
   unfolding overwritten
   gather_whole = sym (ap (overwritten out at) none) ∙ whole
 
--- the FCS, word by word
-pub fcs_written : (out out₁ out₂ : List ℕ) (n x : ℕ) → x ≡ fcs_of (take (n - 0) out) → out₁ ≡ overwritten out n (bytes_of 2 (x % 65536))
-    → out₂ ≡ overwritten out₁ (n + 2) (bytes_of 2 (x / 65536 % 65536)) → out₂ ≡ overwritten out n (bytes_of 4 (fcs_of (take n out)))
-unfolding bytes_of
-fcs_written out out₁ out₂ n x e e₁ e₂ =
-    let f : x ≡ fcs_of (take n out) = rw (sub-zero n) at e in
-    e₂ ∙ rw e₁ (written_more (bytes_of 2 (x % 65536)) (bytes_of 2 (x / 65536 % 65536)) out n) ∙ ap (overwritten out n) (four_bytes x ∙ ap (bytes_of 4) f)
+-- the FCS
+pub fcs_written : (out out₁ : List ℕ) (n x : ℕ) → x ≡ fcs_of (take n out) → out₁ ≡ overwritten out n (bytes_of 4 x)
+    → out₁ ≡ overwritten out n (bytes_of 4 (fcs_of (take n out)))
+fcs_written out out₁ n x e e₁ = e₁ ∙ ap (λ (y : ℕ). overwritten out n (bytes_of 4 y)) e
 
 -- a frame f in the slice, and its FCS behind it where it is asked for
 module _ (f out out₁ : List ℕ) (n : ℕ) (append : Bool) (en : n ≡ length f) (eo : out₁ ≡ overwritten out 0 f) where
@@ -118,7 +101,7 @@ module _ (f out out₁ : List ℕ) (n : ℕ) (append : Bool) (en : n ≡ length 
   unfolding with_fcs bytes_of
   fcs_long t = rw (t, length-append, en)
 
-  pub fcs_behind : (out₂ : List ℕ) → append ≡ true → length f ≤ 4096 → 4100 ≤ length out
+  pub fcs_behind : (out₂ : List ℕ) → append ≡ true → length f ≤ 4096 → length out ≡ 4100
       → out₂ ≡ overwritten out₁ n (bytes_of 4 (fcs_of (take n out₁))) → out₂ ≡ overwritten out 0 (with_fcs append f)
   unfolding with_fcs
   fcs_behind out₂ t l o e =

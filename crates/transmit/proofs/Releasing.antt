@@ -15,34 +15,30 @@ use Rattle.transmit.specs.Report.{stays}
 use Rattle.chain.specs.Inner.Laid.{later, Given, Placed}
 use Rattle.transmit.specs.Turn.{release, finish, give_back}
 
--- n is the memory's length, and what is left comes to the whole, w
-module _ (n : ℕ) (ring : Ring) (left : ℕ) (i : Slot) (m : List ℕ) (w : Ended Slot) (whole : run (release ring left i) m ≡ w) where
-  pub release_over : left ≤ 0 → w ≡ record { answer = i; memory = m }
+-- i was reached after k of the slots, and what is left comes to the whole, w
+module _ (ring : Ring) (all k : ℕ) (i : Slot) (m : List ℕ) (w : Ended Slot) (whole : run (release ring (all - k) i) m ≡ w) where
+  pub release_over : all ≤ k → w ≡ record { answer = i; memory = m }
   unfolding release
   release_over h =
-      let l : left ≡ 0 = omega arith in
-      sym whole ∙ ap (λ (k : ℕ). run (release ring k i) m) l ∙ run_done i m
+      let l : all - k ≡ 0 = omega arith in
+      sym whole ∙ ap (λ (x : ℕ). run (release ring x i) m) l ∙ run_done i m
 
-  pub release_on : (at : ℕ) (j : Slot) → 0 < left → at ≡ place ring i → j ≡ next ring i
-      → run (release ring (left - 1) j) (set m (at + 3) (get_or m (at + 3) 0 % 128)) ≡ w
+  pub release_on : (at : ℕ) (j : Slot) → k < all → at ≡ place ring i → j ≡ next ring i
+      → run (release ring (all - (k + 1)) j) (set m (at + 3) (get_or m (at + 3) 0 % 128)) ≡ w
   unfolding release without_own run
   release_on at j h ea ej =
-      let l : left ≡ suc (left - 1) = omega arith in
-      rw (ea, ej) (ap (λ (k : ℕ). run (release ring k i) m) (sym l) ∙ whole)
+      let l : all - k ≡ suc (all - (k + 1)) = omega arith in
+      rw (ea, ej) (ap (λ (x : ℕ). run (release ring x i) m) (sym l) ∙ whole)
 
--- the first of some slots, and the rest
-module _ (n : ℕ) (ring : Ring) (left : ℕ) (i : Slot) (p : Placed n ring left i) where
-  pub placed_status : (m : List ℕ) (at : ℕ) → length m ≡ n → 0 < left → at ≡ place ring i → at + 3 < length m
+-- the first of the slots that are left, and the rest
+module _ (n : ℕ) (ring : Ring) (all k : ℕ) (i : Slot) (p : Placed n ring (all - k) i) where
+  pub placed_status : (m : List ℕ) (at : ℕ) → length m ≡ n → k < all → at ≡ place ring i → at + 3 < length m
   unfolding later
-  placed_status m at l h e = omega (arith, p.at 0 h)
+  placed_status m at l h e = omega (arith, p.at 0 (omega arith))
 
-  pub placed_rest : (j : Slot) → j ≡ next ring i → Placed n ring (left - 1) j
+  pub placed_rest : (j : Slot) → j ≡ next ring i → Placed n ring (all - (k + 1)) j
   unfolding later
   placed_rest j e = rw e (record { at = λ x y. p.at (suc x) (omega arith) })
-
--- the slots of a chain that can be given back, but for its last
-pub given_less : (m : List ℕ) (ring : Ring) (k : ℕ) (i : Slot) → Given m ring k i → Placed (length m) ring (k - 1) i
-given_less m ring k i g = record { at = λ x y. (g.laid.at x (omega arith)).placed }
 
 -- where releasing ends
 released : (ring : Ring) (k : ℕ) (i : Slot) (m : List ℕ) → (run (release ring k i) m).answer ≡ later ring k i

@@ -1,12 +1,15 @@
 -- The ways of a turn.
 use mathlib.Core.Path.{◌≡◌, refl, sym, ap, ◌∙◌}
-use mathlib.Core.List.{List, []}
-use mathlib.Core.Bool.{Bool, true, false, not, ◌&&◌, ◌||◌}
-use Prim.Native.Nat.{ℕ, zero, suc, ◌+◌, ◌/◌, ◌%◌, ◌≤◌, ◌<◌}
+use mathlib.Core.List.{List, [], ◌++◌}
+use mathlib.Core.Bool.{Bool, true, false, not, ◌||◌}
+use Prim.Native.Nat.{ℕ, zero, suc, ◌+◌, ◌-◌, ◌/◌, ◌%◌, ◌≤◌, ◌<◌}
 use native.Mathlib.Omega.{arith}
-use lib.ListN.{length, length-append}
-use lib.Dec.{eqb, leb}
-use Rattle.bus.specs.Bits.{bit, weigh}
+use lib.ListN.{length, drop, length-append}
+use lib.Dec.{eqb}
+use Rattle.std.specs.Array.{IsFirstChunk}
+use Rattle.std.proofs.lemmas.List.{length-take-le, length-drop, take-append-drop, drop-append-le}
+use Rattle.std.proofs.Common.{append_assoc}
+use Rattle.bus.specs.Bits.{bit}
 use Rattle.bus.specs.Words.{bytes_of, overwritten}
 use Rattle.bus.specs.Bus.{run, Ended, done, reads, Handed, empty_handed, Left, leaves, ◌>>◌}
 use Rattle.bus.proofs.Run.{run_done, run_if, run_else, run_reads, after}
@@ -28,8 +31,6 @@ use Rattle.transmit.specs.declared.Turned.{Turned}
 use Rattle.transmit.specs.declared.Outcome.{Outcome}
 use Rattle.transmit.specs.declared.Outcome.TheVariants.{Idle, OutOfMemory, Underflow, Failed, Sent}
 use Rattle.transmit.specs.Report.{DXMTFCS, meant, hands_out, reported, reported_tmd3}
-use Rattle.ring.specs.Status.{ERR}
-use Rattle.chain.specs.Status.{MORE, ONE, DEF}
 use Rattle.chain.specs.Start.{pass}
 use Rattle.chain.specs.Chain.{read_chain}
 use Rattle.chain.specs.Inner.Bounds.{Counted}
@@ -39,23 +40,6 @@ use Rattle.chain.proofs.Passing.{pass_owned, pass_some}
 use Rattle.chain.proofs.Chains.{found_counted}
 use Rattle.bus.proofs.Bytes.{written_front}
 use Rattle.chain.proofs.Reaching.{chain_ready}
-
--- what a report means
-module _ (mode : ℕ) (w : Report) where
-  pub meant_retry : (bit mode 0x0020 && (eqb w.result 1 || eqb w.result 2)) ≡ true
-      → record { result = 3; deferred = w.deferred; noheartbeat = w.noheartbeat } ≡ meant mode w
-  unfolding meant
-  meant_retry h = rw h
-
-  pub meant_same : (bit mode 0x0020 && (eqb w.result 1 || eqb w.result 2)) ≡ false → w ≡ meant mode w
-  unfolding meant
-  meant_same h = rw h
-
--- what a report leaves in the last status, bit by bit
-pub reported_is : (w : Report) (h : Bool) (a b c d : ℕ) → h ≡ hands_out w → a ≡ weigh (eqb w.result 1) ONE → b ≡ weigh (eqb w.result 2) MORE
-    → c ≡ weigh (w.deferred && h) DEF → d ≡ weigh (leb 3 w.result) ERR → a + b + c + d ≡ reported w
-unfolding reported
-reported_is w h a b c d eh ea eb ec ed = rw (ea, eb, ec, ed, eh)
 
 -- gathering gives the buffers, and leaves the memory
 run_gather : (m : List ℕ) (ring : Ring) (k : ℕ) (i : Slot) → run (gather ring k i) m ≡ record { answer = buffers m ring k i; memory = m }
@@ -79,8 +63,28 @@ leaves_handing : (m out out₁ f : List ℕ) (n : ℕ) (i : Slot) → n ≡ leng
 unfolding leaves run handing
 leaves_handing m out out₁ f n i en eo h = rw (en, eo, written_front f out)
 
+-- what is left in a slice's first n bytes is left in the slice
+filled_front : (f room out ws : List ℕ) (n : ℕ) → IsFirstChunk out room n → length ws ≡ n → f ++ drop (length f) room ≡ ws
+    → f ++ drop (length f) out ≡ ws ++ drop n out
+filled_front f room out ws n k l e =
+    let r : length room ≡ n = ap length k.same ∙ length-take-le n out k.enough in
+    let h : length f + (length room - length f) ≡ n = rw (← length-drop (length f) room, ← length-append f (drop (length f) room)) (ap length e ∙ l) in
+    let i : length f ≤ length room = omega arith in
+    ap (λ (x : List ℕ). f ++ drop (length f) x) (sym (take-append-drop n out) ∙ ap (λ (x : List ℕ). x ++ drop n out) (sym k.same))
+    ∙ ap (λ (x : List ℕ). f ++ x) (drop-append-le (length f) room (drop n out) i)
+    ∙ sym (append_assoc f (drop (length f) room) (drop n out))
+    ∙ ap (λ (x : List ℕ). x ++ drop n out) e
+
+leaves_front : (e : Ended (Handed Turned)) (room out : List ℕ) (t : Turned) (m ws : List ℕ) (n : ℕ) → IsFirstChunk out room n → length ws ≡ n
+    → leaves e room ≡ record { answer = t; memory = m; out = ws } → leaves e out ≡ record { answer = t; memory = m; out = ws ++ drop n out }
+unfolding leaves
+leaves_front e room out t m ws n k l h =
+    let a : e.answer.answer ≡ t = ap (λ (x : Left Turned). x.answer) h in
+    let b : e.memory ≡ m = ap (λ (x : Left Turned). x.memory) h in
+    rw (a, b, filled_front e.answer.frame room out ws n k l (ap (λ (x : Left Turned). x.out) h))
+
 -- a frame with its FCS has room
-fcs_room : (append : Bool) (f out : List ℕ) → length f ≤ 4096 → 4100 ≤ length out → length (with_fcs append f) ≤ length out
+fcs_room : (append : Bool) (f out : List ℕ) → length f ≤ 4096 → length out ≡ 4100 → length (with_fcs append f) ≤ length out
 unfolding with_fcs bytes_of
 fcs_room true f out h l = rw length-append (omega arith)
 fcs_room false f out h l = omega arith
@@ -100,27 +104,28 @@ module _ (m m₁ : List ℕ) (ring : Ring) (k says tmd3 : ℕ) (i : Slot) (e : r
 module _ (m m₁ out : List ℕ) (ring : Ring) (w : Report) (says tmd3 : ℕ) (append hands : Bool) (i : Slot) (r : Reach)
     (es : says ≡ reported w) (et : tmd3 ≡ reported_tmd3 w) (eh : hands ≡ hands_out w)
     (back : run (give_back ring says tmd3 r.slots i) m ≡ record { answer = tt; memory = m₁ }) where
-  pub send_failed : hands ≡ false
+  pub send_failed : (o : Outcome) (out₁ : List ℕ) → hands ≡ false → o ≡ Failed → out₁ ≡ out
       → leaves (run (send ring w append i r) m) out
-      ≡ record { answer = record { outcome = Failed; slot = r.slot }; memory = m₁; out = out }
+      ≡ record { answer = record { outcome = o; slot = r.slot }; memory = m₁; out = out₁ }
   unfolding send
-  send_failed h =
+  send_failed o out₁ h eo el =
       ap (λ (x : Ended (Handed Turned)). leaves x out) (run_else _ _ _ m (sym eh ∙ h))
-      ∙ rw (← es, ← et) (gave_without m m₁ ring r.slots says tmd3 i back out Failed r.slot)
+      ∙ rw (← es, ← et, eo, el) (gave_without m m₁ ring r.slots says tmd3 i back out Failed r.slot)
 
-  pub send_sent : (n : ℕ) (out₁ : List ℕ) → hands ≡ true → Sendable m ring r.slots i → 4100 ≤ length out
+  pub send_sent : (n : ℕ) (o : Outcome) (out₁ out₂ : List ℕ) → hands ≡ true → Sendable m ring r.slots i → length out ≡ 4100
       → n ≡ length (with_fcs append (buffers m ring r.slots i))
-      → out₁ ≡ overwritten out 0 (with_fcs append (buffers m ring r.slots i))
+      → out₁ ≡ overwritten out 0 (with_fcs append (buffers m ring r.slots i)) → o ≡ Sent n → out₂ ≡ out₁
       → leaves (run (send ring w append i r) m) out
-      ≡ record { answer = record { outcome = Sent n; slot = r.slot }; memory = m₁; out = out₁ }
+      ≡ record { answer = record { outcome = o; slot = r.slot }; memory = m₁; out = out₂ }
   unfolding send
-  send_sent n out₁ h s l en eo =
-      ap (λ (x : Ended (Handed Turned)). leaves x out)
+  send_sent n o out₁ out₂ h s l en el eo eq =
+      rw (eo, eq)
+      (ap (λ (x : Ended (Handed Turned)). leaves x out)
       (run_if _ _ _ m (sym eh ∙ h)
       ∙ after (gather ring r.slots i) _ m m (buffers m ring r.slots i) (run_gather m ring r.slots i)
       ∙ rw (← es, ← et) (gave m m₁ ring r.slots says tmd3 i back _))
-      ∙ leaves_handing m₁ out out₁ (with_fcs append (buffers m ring r.slots i)) n r.slot en eo
-      (fcs_room append (buffers m ring r.slots i) out s.fits l)
+      ∙ leaves_handing m₁ out out₁ (with_fcs append (buffers m ring r.slots i)) n r.slot en el
+      (fcs_room append (buffers m ring r.slots i) out s.fits l))
 
 -- a chain by how it ends
 pub ready_is : (y : Close) (m : List ℕ) (ring : Ring) (k : ℕ) (i : Slot) (x : Close) → Ready m ring k i x → x ≡ y → Ready m ring k i y
@@ -138,18 +143,18 @@ module _ (m out : List ℕ) (ring : Ring) (w : Report) (append : Bool) (i : Slot
   unfolding ending
   end_memory e = rw e (leaves_without m out OutOfMemory i)
 
-  module _ (m₁ : List ℕ) where
-    pub end_short : x ≡ Short → run (give_back ring 0x40 0xC000 r.slots i) m ≡ record { answer = tt; memory = m₁ }
+  module _ (m₁ : List ℕ) (tmd3 : ℕ) (back : run (give_back ring 0x40 tmd3 r.slots i) m ≡ record { answer = tt; memory = m₁ }) where
+    pub end_short : x ≡ Short → tmd3 ≡ 0xC000
         → leaves (run (ending ring w append i x r) m) out
         ≡ record { answer = record { outcome = Underflow; slot = r.slot }; memory = m₁; out = out }
     unfolding ending
-    end_short e b = rw e (gave_without m m₁ ring r.slots 0x40 0xC000 i b out Underflow r.slot)
+    end_short e t = rw e (gave_without m m₁ ring r.slots 0x40 0xC000 i (rw t at back) out Underflow r.slot)
 
-    pub end_long : x ≡ Long → run (give_back ring 0x40 0x4000 r.slots i) m ≡ record { answer = tt; memory = m₁ }
+    pub end_long : x ≡ Long → tmd3 ≡ 0x4000
         → leaves (run (ending ring w append i x r) m) out
         ≡ record { answer = record { outcome = Underflow; slot = r.slot }; memory = m₁; out = out }
     unfolding ending
-    end_long e b = rw e (gave_without m m₁ ring r.slots 0x40 0x4000 i b out Underflow r.slot)
+    end_long e t = rw e (gave_without m m₁ ring r.slots 0x40 0x4000 i (rw t at back) out Underflow r.slot)
 
 -- a turn by what its start found
 module _ (m m₁ out : List ℕ) (ring : Ring) (mode : ℕ) (w v : Report) (j : Slot) (s : Start) (ev : v ≡ meant mode w)
@@ -189,11 +194,12 @@ module _ (m m₁ out : List ℕ) (ring : Ring) (mode : ℕ) (w v : Report) (j : 
       pub frame_ready : Ready m₁ ring c.reach.slots j c.close
       frame_ready = chain_ready m₁ ring j d c (rw l owned) ec
 
-      pub turn_frame : (x : Left Turned)
-          → leaves (run (ending ring v (eqb (d.status / 32 % 2) 1 || not (bit mode DXMTFCS)) j c.close c.reach) m₁) out ≡ x
-          → leaves (run (turn (length m) ring mode w) m) out ≡ x
+      -- the frame goes into the slice's front
+      pub turn_frame : (t : Turned) (m₂ room ws : List ℕ) → IsFirstChunk out room 4100 → length ws ≡ 4100
+          → leaves (run (ending ring v (eqb (d.status / 32 % 2) 1 || not (bit mode DXMTFCS)) j c.close c.reach) m₁) room ≡ record { answer = t; memory = m₂; out = ws }
+          → leaves (run (turn (length m) ring mode w) m) out ≡ record { answer = t; memory = m₂; out = ws ++ drop 4100 out }
       unfolding go_on
-      turn_frame x h =
+      turn_frame t m₂ room ws k lw h =
           started (Frame j d) es
           ∙ ap (λ (x : Ended (Handed Turned)). leaves x out) (after (read_chain (length m) ring j d) _ m₁ m₁ c (rw l at ec))
-          ∙ h
+          ∙ leaves_front _ room out t m₂ ws 4100 k lw h

@@ -6,10 +6,12 @@ mod hashes;
 mod texts;
 
 use std::io;
+use tally::Tally;
 
 // Runs all vectors and prints the tally.
 fn main(rt: HostRuntime) -> io::Result<()> {
-    let none = tally::none();
-    let t = hashes::run(frames::run(texts::run(none)));
-    tally::tell(&rt, b"vectors", t)
+    let t = texts::run(Tally::none());
+    let t = frames::run(t);
+    let t = hashes::run(t);
+    println!(rt; "vectors {t}")
 }

@@ -1,14 +1,9 @@
 -- `put_words`: at each word what is left to write comes to the whole.
-use mathlib.Core.Path.{refl}
-use borrow.Author.Rules.{rules}
 use Rattle.block.proofs.Places.{put_goes, put_ends}
 use Rattle.block.proofs.put_words.Goals as goal
 
-pub loop-i-init : goal.loop-i-init
-loop-i-init c = (search rules, refl, refl)
-
 pub loop-i-preserved : goal.loop-i-preserved
-loop-i-preserved c = (search rules, search rules, search put_goes)
+loop-i-preserved c = search put_goes
 
 pub returns : goal.returns
 returns c = search put_ends

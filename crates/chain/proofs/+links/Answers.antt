@@ -1,10 +1,7 @@
 -- `links`: two halves come to the whole, and the number of slots falls.
 use native.Mathlib.Omega.{arith}
-use Rattle.chain.proofs.Chains.{links_over, links_none, links_one, links_small, links_both}
+use Rattle.chain.proofs.Chains.{links_none, links_one, links_bounds, links_both, links_ended}
 use Rattle.chain.proofs.+links.Goals as goal
-
-pub returns-in_default : goal.returns-in_default
-returns-in_default t c = search links_over
 
 pub returns-then-k-eq0 : goal.returns-then-k-eq0
 returns-then-k-eq0 t c = search links_none
@@ -12,8 +9,11 @@ returns-then-k-eq0 t c = search links_none
 pub returns-then-k-eq1 : goal.returns-then-k-eq1
 returns-then-k-eq1 t c = search links_one
 
-pub links-requires : goal.links-requires
-links-requires t c = (omega arith, search links_small)
+pub returns-in_err-first : goal.returns-in_err-first
+returns-in_err-first t c = search (links_ended, c.in_err-first.was)
+
+pub links-requires-2 : goal.links-requires-2
+links-requires-2 t c = (omega arith, search (links_bounds, c.in_ok-first.ensures))
 
 pub returns : goal.returns
-returns t c = search links_both
+returns t c = search (links_both, c.in_ok-first.ensures)

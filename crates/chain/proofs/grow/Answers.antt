@@ -5,8 +5,8 @@ use Rattle.chain.proofs.grow.Goals as goal
 pub returns-then-n-end : goal.returns-then-n-end
 returns-then-n-end c = search grow_outside
 
-pub returns-then-total-gt-MOST : goal.returns-then-total-gt-MOST
-returns-then-total-gt-MOST c = search grow_long
+pub returns-then-further-gt-MOST : goal.returns-then-further-gt-MOST
+returns-then-further-gt-MOST c = search grow_long
 
 pub returns-then-enp-eq1 : goal.returns-then-enp-eq1
 returns-then-enp-eq1 c = search grow_whole

@@ -1,12 +1,9 @@
 -- `link`: each way is a law of one slot more.
-use Rattle.chain.proofs.Chains.{open_within, link_over, link_outside, link_not_owned, link_owned, link_counted}
+use Rattle.chain.proofs.Chains.{link_outside, link_not_owned, link_owned, look_counted}
 use Rattle.chain.proofs.link.Goals as goal
 
-pub grow-requires : goal.grow-requires
-grow-requires c = search (link_counted, open_within)
-
-pub returns-in-Over : goal.returns-in-Over
-returns-in-Over c = search link_over
+pub grow-requires-clause-counted : goal.grow-requires-clause-counted
+grow-requires-clause-counted c = search look_counted
 
 pub returns-in-Outside : goal.returns-in-Outside
 returns-in-Outside c = search link_outside

@@ -1,11 +1,7 @@
 -- `pass`: at each slot what is left to pass comes to the whole.
-use Rattle.chain.proofs.Passing.{look_inside, pass_starts, pass_over, pass_outside, pass_not_owned, pass_frame, pass_on}
-use mathlib.Core.Path.{refl}
 use borrow.Author.Rules.{rules}
+use Rattle.chain.proofs.Passing.{look_inside, pass_over, pass_outside, pass_not_owned, pass_frame, pass_on}
 use Rattle.chain.proofs.pass.Goals as goal
-
-pub loop-left-init : goal.loop-left-init
-loop-left-init c = (refl, search pass_starts)
 
 pub returns-in-Outside : goal.returns-in-Outside
 returns-in-Outside c = search pass_outside
@@ -19,8 +15,8 @@ returns-then-stp-eq1 c = search pass_frame
 pub bounds-memory-at : goal.bounds-memory-at
 bounds-memory-at c = search look_inside
 
-pub loop-left-preserved : goal.loop-left-preserved
-loop-left-preserved c = (search rules, search pass_on)
+pub loop-preserved : goal.loop-preserved
+loop-preserved c = (search rules, search pass_on)
 
 pub returns : goal.returns
 returns c = search pass_over

@@ -2,8 +2,6 @@
 use Rattle.std.specs.Prelude.{◌≤◌}
 use Rattle.ring.specs.declared.Descriptor.{Descriptor}
 use Rattle.chain.specs.declared.Reach.{Reach}
-use Rattle.chain.specs.declared.Chain.{Chain}
-use Rattle.chain.specs.declared.Chain.TheVariants.{Open, Over}
 
 -- a descriptor's byte count is 1 to 4,096
 pub record Counted (d : Descriptor) : Type 0 where
@@ -14,8 +12,3 @@ pub record Counted (d : Descriptor) : Type 0 where
 pub record Within (r : Reach) : Type 0 where
   pub few : r.slots ≤ r.total
   pub most : r.total ≤ 4096
-
--- .. which is asked only of an open one
-unfoldable pub Small : Chain → Type 0
-Small (Open r) = Within r
-Small (Over e r) = Unit {0}

@@ -1,6 +1,0 @@
--- `is_known`: the code's tests are the table's numbers.
-use mathlib.Core.Path.{refl}
-use Rattle.registers.proofs.table.is_known.Goals as goal
-
-pub returns : goal.returns
-returns c = refl
