@@ -45,7 +45,8 @@ checks: ready lib ## compare the archives with independent programs
 	@$(RUN) target/checks/runtime > target/checks/runtime.out || { cat target/checks/runtime.out; exit 1; }
 	@$(call C,checks/door.c,target/checks/door,$(SANITIZE))
 	@$(RUN) target/checks/door
-	@$(call C,checks/stack.c,target/checks/stack)
+	@# bound at the start: the loader's own stack, at the first call of memmove, is not an entry's
+	@$(call C,checks/stack.c,target/checks/stack,-z now)
 	@$(RUN) target/checks/stack
 	@$(call R,checks/model.rs,target/checks/model,build,am79c960)
 	@$(RUN) target/checks/model
