@@ -1,5 +1,4 @@
--- The laws about choices, bytes, bus programs, and contracts that leave one answer.
-pub mod Choices
+-- The laws about bytes, bus programs, and contracts that leave one answer.
 pub mod Bytes
 pub mod Run
 pub mod Within

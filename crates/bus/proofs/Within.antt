@@ -4,11 +4,12 @@ use native.Mathlib.Nat.{suc-add, add-suc, add-zero, zero-lt-suc}
 use native.Mathlib.Numerals.{add-one}
 use native.Mathlib.Omega.{arith}
 use mathlib.Core.Path.{◌≡◌, refl, sym, subst, ◌∙◌}
-use mathlib.Core.Bool.{Bool, true, false}
+use mathlib.Core.Bool.{Bool}
 use mathlib.Core.Logic.{◌⊎◌, inl, inr, ⊎_elim}
 use mathlib.Core.List.{List, [], ◌∷◌}
 use lib.ListN.{length, get_or, set}
 use Rattle.std.specs.Prelude.{if◌then◌else◌}
+use Rattle.std.proofs.lemmas.Bool.{cond_both}
 use Rattle.bus.specs.Words.{joined, part, words_at, overwritten}
 use Rattle.bus.specs.Bus.{Bus, done, load, store, Ended, run, ◌>>=◌, ◌>>◌, reads, words, bytes}
 use Rattle.bus.specs.Within.{Keeps, Within}
@@ -16,12 +17,8 @@ use Rattle.bus.proofs.Run.{run_reads}
 
 -- what is so of two things is so of the one that a test chooses
 module _ {A : Type 0} (P : A → Type 0) where
-  pub so_where : (b : Bool) (x y : A) → (b ≡ true → P x) → (b ≡ false → P y) → P (if b then x else y)
-  so_where true x y p q = p refl
-  so_where false x y p q = q refl
-
   pub so_if : (b : Bool) (x y : A) → P x → P y → P (if b then x else y)
-  so_if b x y p q = so_where b x y (λ e. p) (λ e. q)
+  so_if b x y p q = cond_both b x y P (λ e. p) (λ e. q)
 
 -- nothing was allowed before
 pub none : {A B : Type 0} → ⊥ ⊎ B → A ⊎ B

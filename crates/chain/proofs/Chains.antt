@@ -2,26 +2,25 @@
 use mathlib.Core.Path.{◌≡◌, refl, sym, ap, subst, ◌∙◌}
 use mathlib.Core.List.{List}
 use mathlib.Core.Bool.{Bool, true, false}
-use Prim.Native.Nat.{ℕ, zero, suc, ◌+◌, ◌-◌, ◌/◌, ◌%◌, ◌≤◌, ◌<◌}
+use Prim.Native.Nat.{ℕ, zero, suc, ◌+◌, ◌-◌, ◌/◌, ◌≤◌}
 use native.Mathlib.Nat.{zero-add, suc-add}
 use native.Mathlib.Omega.{arith}
 use lib.ListN.{length}
 use lib.Dec.{ltb}
-use borrow.Author.Tests.{eq-eqb, ne_eqb, ltb-false}
+use borrow.Author.Tests.{ltb-false}
 use Rattle.std.specs.Prelude.{if◌then◌else◌}
 use Rattle.std.specs.ControlFlow.{MatchControlFlow}
 use Rattle.std.specs.declared.ops.ControlFlow.TheVariants.{Continue, Break}
 use Rattle.bus.specs.Bits.{bit}
 use Rattle.bus.specs.Words.{part}
 use Rattle.bus.specs.Bus.{run, Ended, done, ◌>>=◌}
-use Rattle.bus.proofs.Choices.{if_true, if_false, if_lt, if_ge}
 use Rattle.bus.proofs.Run.{run_done, run_then, after}
 use Rattle.ring.specs.declared.Slot.{Slot}
 use Rattle.ring.specs.declared.Ring.{Ring}
 use Rattle.ring.specs.declared.Descriptor.{Descriptor}
 use Rattle.ring.specs.declared.Found.{Found}
 use Rattle.ring.specs.declared.Found.TheVariants.{Outside, NotOwned, Owned}
-use Rattle.ring.specs.Slots.{slots, next, place}
+use Rattle.ring.specs.Slots.{slots, place}
 use Rattle.ring.specs.Descriptor.{look, described, by◌outside:◌not_owned:◌owned:◌}
 use Rattle.ring.proofs.Finding.{found, run_look, look_finds, found_is}
 use Rattle.chain.specs.declared.Reach.{Reach}
@@ -30,35 +29,6 @@ use Rattle.chain.specs.declared.Close.TheVariants.{Whole, Memory, Short, Long}
 use Rattle.chain.specs.declared.Closed.{Closed}
 use Rattle.chain.specs.Inner.Bounds.{Counted, Within}
 use Rattle.chain.specs.Chain.{Chain, over, further, grow, closed, link, links, read_chain}
-
--- the ways that a chain grows by a descriptor
-module _ (n : ℕ) (ring : Ring) (d : Descriptor) (r : Reach) (g : Chain) where
-  pub grow_outside : n < d.address + d.count → g ≡ over Memory r → g ≡ grow n ring d r
-  unfolding grow
-  grow_outside h e = if_lt n (d.address + d.count) g (over Memory r) _ h e
-
-  module _ (j : Slot) (inside : d.address + d.count ≤ n) (ej : j ≡ next ring r.slot) where
-    reach : record { slot = j; slots = r.slots + 1; total = r.total + d.count } ≡ further ring d r
-    unfolding further
-    reach = rw ej
-
-    pub grow_long : 4096 < r.total + d.count → g ≡ over Long (record { slot = j; slots = r.slots + 1; total = r.total + d.count }) → g ≡ grow n ring d r
-    unfolding grow
-    grow_long h e = if_ge n (d.address + d.count) _ _ _ inside (if_lt 4096 (r.total + d.count) _ _ _ h (e ∙ ap (over Long) reach))
-
-    module _ (h : r.total + d.count ≤ 4096) where
-      pub grow_whole : d.status / 1 % 2 ≡ 1 → g ≡ over Whole (record { slot = j; slots = r.slots + 1; total = r.total + d.count }) → g ≡ grow n ring d r
-      unfolding grow
-      grow_whole b e =
-          if_ge n (d.address + d.count) _ _ _ inside
-          (if_ge 4096 (r.total + d.count) _ _ _ h (if_true _ _ _ _ (eq-eqb (d.status / 1 % 2) 1 b) (e ∙ ap (over Whole) reach)))
-
-      pub grow_open : (d.status / 1 % 2 ≡ 1 → ⊥) → g ≡ Continue (record { slot = j; slots = r.slots + 1; total = r.total + d.count }) → g ≡ grow n ring d r
-      unfolding grow
-      grow_open b e =
-          if_ge n (d.address + d.count) _ _ _ inside
-          (if_ge 4096 (r.total + d.count) _ _ _ h
-          (if_false _ _ _ _ (ne_eqb (d.status / 1 % 2) 1 b) (e ∙ ap Continue reach)))
 
 -- a descriptor that is found has a byte count of 1 to 4,096
 pub found_counted : (n : ℕ) (ring : Ring) (i : Slot) (m : List ℕ) (d : Descriptor) → found n ring i m ≡ Owned d → Counted d

@@ -86,6 +86,7 @@ pub fn pass(memory: &mut [u8], ring: Ring) -> Start
 // A chain grows by an owned descriptor, in a memory of n bytes: it goes on, or it is over.
 // `Within` is no invariant of Reach: a chain that is over may have more bytes, and a type of those that go on would be its twin.
 // `Counted` is asked here as `read_chain` asks it, whose contract may not change.
+#[tactic(auto, unfolding(crate::specs::Chain::grow, crate::specs::Chain::further))]
 fn grow(n: usize, ring: Ring, d: Descriptor, reach: Reach) -> ControlFlow<Closed, Reach>
     requires counted { Counted d }
     requires within { Within reach }
@@ -139,6 +140,7 @@ fn links(memory: &[u8], ring: Ring, k: u32, reach: Reach) -> ControlFlow<Closed,
 }
 
 // How far a chain goes on from its start, or how it is over, by the first slot's descriptor and the slots after it.
+#[tactic(auto, using(crate::proofs::Chains::grow_bounds, crate::proofs::Chains::links_over))]
 fn follow(memory: &[u8], ring: Ring, d: Descriptor, start: Reach) -> ControlFlow<Closed, Reach>
     requires counted { Counted d }
     requires within { Within start }

@@ -50,6 +50,7 @@ impl Filter {
     }
 
     // Whether a destination is ours by its address.
+    #[tactic(auto, unfolding(crate::specs::Filter::addressed))]
     fn is_addressed(&self, to: &[u8; 6]) -> bool
         ensures { result ≡ addressed self.now.mode self.now.padr self.now.ladrf to.now }
     {

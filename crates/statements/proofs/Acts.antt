@@ -13,7 +13,8 @@ use Rattle.std.proofs.lemmas.Result.{IfErr-at_err}
 use Rattle.bus.specs.Bits.{bit, weigh}
 use Rattle.bus.specs.Bus.{Bus, Handed, empty_handed}
 use Rattle.bus.specs.Within.{Within}
-use Rattle.bus.proofs.Within.{so_if, so_where, within_done, within_then}
+use Rattle.std.proofs.lemmas.Bool.{cond_both}
+use Rattle.bus.proofs.Within.{so_if, within_done, within_then}
 use Rattle.ring.specs.declared.Slot.{Slot}
 use Rattle.ring.specs.declared.Ring.{Ring}
 use Rattle.ring.specs.Slots.{slots}
@@ -138,7 +139,7 @@ unfolding arriving arrival take_in
 arriving_within c n f extra m =
     so_unless Ok (arrive_refusal c n (length f) extra) _ _
     (λ r t. within_done _ _ _ _ m (λ e. refused_soundly c _ r t (subst (λ (s : Bool). Never9 (arrive_tests s n (length f) extra)) (sym e) (arrive_never_9 n (length f) extra)) e))
-    (λ z. so_where Ok c.csr0.rxon _ _
+    (λ z. cond_both c.csr0.rxon _ _ Ok
     (λ on. so_if Ok _ _ _ (within_done _ _ _ _ m (replied_soundly c _ refl))
     (so_if Ok _ _ _ (took (arrive_sound (sound c) n (length f) extra z) (ap (λ (b : Bool). b || c.csr0.txon) on)) (within_done _ _ _ _ m (replied_soundly c _ refl))))
     (λ off. within_done _ _ _ _ m (replied_soundly c _ refl)))
@@ -159,7 +160,7 @@ unfolding turning turn_if_on take_turn empty_handed
 turning_within c n out w m =
     so_unless Ok (turn_refusal c n out w.result) _ _
     (λ r t. within_done _ _ _ _ m (λ e. refused_soundly c _ r t (subst (λ (s : Bool). Never9 (turn_tests s n out w.result)) (sym e) (turn_never_9 n out w.result)) e))
-    (λ z. so_where Ok c.csr0.txon _ _
+    (λ z. cond_both c.csr0.txon _ _ Ok
     (λ on. took (turn_sound (sound c) n out w.result z) (ap (λ (b : Bool). c.csr0.rxon || b) on ∙ or-true c.csr0.rxon))
     (λ off. within_done _ _ _ _ m (replied_soundly c _ refl)))
   where

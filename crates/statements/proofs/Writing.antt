@@ -10,7 +10,8 @@ use Rattle.bus.specs.Words.{words_at}
 use Rattle.bus.specs.Bus.{Bus, words, done}
 use Rattle.bus.specs.Within.{Within}
 use Rattle.bus.proofs.Bytes.{get_d_words}
-use Rattle.bus.proofs.Within.{so_if, so_where, within_done, within_then, within_words}
+use Rattle.std.proofs.lemmas.Bool.{cond_both}
+use Rattle.bus.proofs.Within.{so_if, within_done, within_then, within_words}
 use Rattle.ring.proofs.Loaded.{words_loaded}
 use Rattle.registers.specs.declared.Csr0.{Csr0}
 use Rattle.registers.specs.Bits.{MERR, IDON, RXON, TXON, STOP, INIT}
@@ -92,7 +93,7 @@ module _ (d : Card) (m₀ : List ℕ) where
   asked_within : (c : Card) (n v : ℕ) → block_address c ≡ block_address d → Ok (λ (t : Tried). Parts c → Fine t.card t.ready) (init_if_asked c n v) m₀
   unfolding init_if_asked tried
   asked_within c n v e =
-      so_where (λ (p : Bus Tried). Ok (λ (t : Tried). Parts c → Fine t.card t.ready) p m₀) (bit v INIT && c.csr0.stop) _ _
+      cond_both (bit v INIT && c.csr0.stop) _ _ (λ (p : Bus Tried). Ok (λ (t : Tried). Parts c → Fine t.card t.ready) p m₀)
       (λ h. init_within c n e (λ p. stop_still c.csr0 p.csr0 ((and-eq-true_iff (bit v INIT) _).0 h).1))
       (λ h. within_done (InBlock d) Nothing (λ m (t : Tried). Bytes m₀ → Parts c → Fine t.card t.ready) _ m₀ (λ b p. record { card = p; unready = λ d. d }))
 

@@ -204,6 +204,7 @@ impl Outgoing {
     }
 
     // The chain's last slot gets TMD3 and what its status says, and loses OWN.
+    #[tactic(auto, using(crate::proofs::Releasing::finished))]
     fn finish(self, memory: &mut [u8], says: u8, tmd3: u16, last: Slot)
         requires last_inside { place self.ring last + 8 ≤ length memory.old }
         requires says_small { says < 128 }
