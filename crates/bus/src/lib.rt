@@ -7,6 +7,7 @@ ghost use Rattle.bus.specs.Bits.{bit, weigh};
 ghost use Rattle.bus.specs.Words.{joined, bytes_of, part, words_at, overwritten};
 
 // Whether a word has the bit of a weight; no bit weighs 0.
+// Of words alone: a status is a byte, and its bits are tested where it is read.
 pub fn bit(w: u16, weight: u16) -> bool
     ensures { result ≡ bit w weight }
 {

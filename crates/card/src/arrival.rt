@@ -28,6 +28,7 @@ impl Card {
     }
 
     // What a walk through the ring leaves.
+    // Slot and ending apart, as the definition has them.
     fn arrived(self, slot: Slot, ending: Ending) -> Reply
         ensures { result ≡ arrived self slot ending }
     {

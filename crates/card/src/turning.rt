@@ -12,6 +12,7 @@ use transmit::{Outcome, Report};
 
 impl Card {
     // What a turn on the ring leaves.
+    // Slot and outcome apart, as the definition has them.
     fn turned(self, noheartbeat: bool, slot: Slot, outcome: Outcome) -> Reply
         ensures { result ≡ turned self noheartbeat slot outcome }
     {

@@ -5,7 +5,7 @@ use card::{Card, Reply};
 use ring::Slot;
 use transmit::Report;
 
-// Whether the answer is the expected one.
+// Whether the answer is the expected one: a name for `==`, as most cases ask it.
 pub fn is(reply: Reply, answer: Answer) -> bool {
     reply.answer == answer
 }

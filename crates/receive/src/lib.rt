@@ -217,6 +217,7 @@ fn ending_of(found: Found) -> Ending
 }
 
 // A frame's way through the ring, from its current slot on.
+// `right` and `extra` apart from the frame: the definition takes only the status that they make.
 // Memory and ring come apart, since the caller lends the one and the card has the other.
 pub fn walk(memory: &mut [u8], ring: Ring, frame: &[u8], right: bool, extra: u32) -> Walked
     ensures { run (walk (length memory.old) ring frame.now (end_status right extra)) memory.old ≡ record { answer = result; memory = memory.new } }

@@ -26,6 +26,7 @@ fn is_writable(r: u16) -> bool
 }
 
 // Whether there is no register at an offset.
+// RAP and an offset apart, here and below: the acts have them so, and RAP alone is of the state.
 #[tactic(auto, unfolding(crate::specs::Table::no_register))]
 pub fn is_nowhere(rap: u16, offset: u32) -> bool
     ensures { result ≡ no_register rap offset }

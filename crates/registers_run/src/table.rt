@@ -1,6 +1,7 @@
 // The table: what document 01 says of each register, right after an initialization with the block of `cards`.
 
 // A letter for each register number from 0 to 127, as `Kind::of` reads them.
+// Letters, so that all rows are held beside document 01 at one look.
 const LETTERS: [u8; 128] = *b"0www....rrrrrrrr........rr....rr................................\
 ........r.r.r.r.........ff......................f...............";
 

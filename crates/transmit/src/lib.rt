@@ -138,6 +138,7 @@ fn reported_tmd3(report: Report) -> u16
 }
 
 // The FCS of the slice's first n bytes is written behind them.
+// A place in the slice and no slice of it: this clause and that of `hand_out` speak of the whole.
 #[tactic(auto, using(crate::proofs::Frames::fcs_written))]
 fn append_fcs(out: &mut [u8], n: usize)
     requires { n + 4 ≤ length out.old }
@@ -149,6 +150,7 @@ fn append_fcs(out: &mut [u8], n: usize)
 
 impl Outgoing {
     // A slot's buffer is copied into the slice: the place after it there.
+    // A place, as `bus::copy_bytes` takes it.
     fn copy_buffer(self, memory: &[u8], slot: Slot, out: &mut [u8], at: usize) -> usize
         requires inside { Inside memory.now self.ring slot }
         requires room { at + length (buffer memory.now self.ring slot) ≤ length out.old }
