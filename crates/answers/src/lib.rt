@@ -66,6 +66,7 @@ pub struct Event {
 
 impl Refusal {
     // The table's number, which the C interface hands back.
+    // No From: an answer has four numbers, and each is a method with the definition's name.
     pub fn number(self) -> u8
         ensures { result ≡ refusal_number self }
     {

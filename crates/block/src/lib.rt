@@ -41,7 +41,7 @@ fn is_head(block: &[u8], words: &[u16; WORDS]) -> bool
 }
 
 // Whether the unused bytes are 0.
-// Not `iter().all(..)`: that goes byte by byte; a write to RAP takes 6,031 instructions with it, and 4,951 so.
+// Not `iter().all(..)`: that goes byte by byte; a write to RAP takes 6,031 instructions with it, and 4,956 so.
 #[tactic(auto, using(crate::proofs::Opens::rest_is))]
 fn is_rest(block: &[u8]) -> bool
     requires { 508 ≤ length block.now }

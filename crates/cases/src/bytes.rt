@@ -67,7 +67,7 @@ fn described(address: u16, status: u8, count: u16) -> [u8; 8] {
     [a, b, 0, status, c, d, 0xA5, 0x5A]
 }
 
-// A descriptor is put at a place of the memory.
+// A descriptor is put at a place of the memory, as the cases give it here and below.
 pub fn descriptor(m: &mut Memory, at: usize, address: u16, status: u8, count: u16) {
     copy(m, at, &described(address, status, count));
 }

@@ -164,6 +164,7 @@ impl Outgoing {
     }
 
     // The chain's buffers are copied into the slice, one after the other: the number of their bytes.
+    // No iterator over slots here and in `release`: `chain::pass` says why.
     fn gather(self, memory: &[u8], out: &mut [u8]) -> usize
         requires laid { Laid memory.now self.ring self.reach.slots self.first }
         requires room { length (buffers memory.now self.ring self.reach.slots self.first) ≤ length out.old }
@@ -271,6 +272,7 @@ impl Outgoing {
 }
 
 // A transmit turn from the ring's current slot on, by MODE and the wire report.
+// Memory and ring come apart, as at `receive::walk`: one memory holds both rings.
 // `out` stays a slice here, as its contract may not change and the C interface lends one of any length; within, its front is an array.
 pub fn turn(memory: &mut [u8], ring: Ring, mode: u16, report: Report, out: &mut [u8]) -> Turned
     requires { 4100 ≤ length out.old }
