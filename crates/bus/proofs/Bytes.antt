@@ -1,17 +1,16 @@
 -- Bytes that are read from a slice and written into one.
 use mathlib.Core.Path.{◌≡◌, refl, sym, ap, ap₂, subst, ◌∙◌}
 use mathlib.Core.List.{List, [], ◌∷◌, ◌++◌, append_assoc}
-use Prim.Native.Nat.{ℕ, zero, suc, ◌+◌, ◌*◌, ◌/◌, ◌≤◌, ◌<◌}
-use native.Mathlib.Nat.{zero-add, add-zero, add-suc, suc-add, not-suc-le-zero, le_of_suc-le-suc}
+use Prim.Native.Nat.{ℕ, zero, suc, ◌+◌, ◌-◌, ◌*◌, ◌/◌, ◌≤◌, ◌<◌}
+use native.Mathlib.Nat.{zero-add, add-zero, add-suc, suc-add, sub-zero, not-suc-le-zero, le_of_suc-le-suc, lt_irrefl}
 use native.Mathlib.Numerals.{add-one}
 use native.Mathlib.Omega.{arith}
-use lib.ListN.{length, get_or, set, take, drop, drop_of_length-le}
-use lib.Seq.{sets, sets-eq, drop-cons, drop-drop, take-append_seam}
+use borrow.Author.Count.{below_more}
+use lib.ListN.{length, get_or, set, take, drop, length-set}
+use lib.Seq.{sets, sets-eq, drop-cons, drop-drop, take-append_seam, get_or-set_same, get_or-set_other, ext_get_or}
 use borrow.Rule.Slice.PartMut.{put_mid}
 use mir.Syntax.{w16, w32}
 use Rattle.std.specs.Int.{to_le_bytes}
-use Rattle.std.specs.Fn.{Mut, Called}
-use Rattle.std.specs.Array.{IsFromFnResult, IsFromFnResultFrom}
 use Rattle.bus.specs.Words.{joined, bytes_of, part, words_at, overwritten, filled}
 
 -- the bytes from an address on, where all are inside
@@ -47,6 +46,12 @@ get_d_words (suc k) (suc i) a m h =
     let e : a + 2 * suc i ≡ suc (suc a) + 2 * i = omega arith in
     rw e (get_d_words k i (suc (suc a)) m (le_of_suc-le-suc h))
 
+-- their number
+pub length_words : (k a : ℕ) (m : List ℕ) → length (words_at m a k) ≡ k
+unfolding words_at
+length_words zero a m = refl
+length_words (suc k) a m = ap suc (length_words k (suc (suc a)) m)
+
 -- what a part of a slice is copied over with, in the definition's words
 pub pasted : (out ys bs : List ℕ) (at n k : ℕ) → ys ≡ bs → length bs ≡ n → k ≡ n → at + n ≤ length out → put_mid at k out ys ≡ overwritten out at bs
 unfolding overwritten
@@ -55,12 +60,6 @@ pasted out ys bs at n k e l same h =
     let rest : drop k (drop at out) ≡ drop (at + length bs) out = drop-drop k at out ∙ ap (λ (j : ℕ). drop (at + j) out) (same ∙ sym l) in
     ap (λ (r : List ℕ). take at out ++ r) (ap₂ ◌++◌ e rest) ∙ sym (append_assoc (take at out) bs (drop (at + length bs) out))
     ∙ sym (sets-eq bs out at room)
-
--- .. with the bytes of a part of another
-pub copied : (m out ys : List ℕ) (from at count k f : ℕ) → ys ≡ take f (drop from m) → f ≡ count → k ≡ count → from + count ≤ length m → at + count ≤ length out
-    → put_mid at k out ys ≡ overwritten out at (part m from count)
-copied m out ys from at count k f e same here i o =
-    pasted out ys (part m from count) at count k (e ∙ ap (λ (j : ℕ). take j (drop from m)) same ∙ sym (part_is count from m i)) (length_part count from m) here o
 
 -- .. with a number's bytes, as the library has them
 pub word_put : (out ys : List ℕ) (at k w : ℕ) → ys ≡ to_le_bytes w16 w → k ≡ 2 → at + 2 ≤ length out → put_mid at k out ys ≡ overwritten out at (bytes_of 2 w)
@@ -73,6 +72,26 @@ double_put out ys at k x e =
     let b : x / 65536 ≡ x / 256 / 256 = omega arith in
     let c : x / 16777216 ≡ x / 256 / 256 / 256 = omega arith in
     pasted out ys (bytes_of 4 x) at 4 k (e ∙ rw (b, c) refl) refl
+
+-- what is left of a copy, at its start, after one byte and at its end
+module _ (m out : List ℕ) (from at count : ℕ) where
+  pub copy_start : overwritten out (at + 0) (part m (from + 0) (count - 0)) ≡ overwritten out at (part m from count)
+  copy_start = rw (add-zero at, add-zero from, sub-zero count)
+
+  module _ (i : ℕ) (w : List ℕ) (e : overwritten out (at + i) (part m (from + i) (count - i)) ≡ w) where
+    pub copy_on : i < count → overwritten (set out (at + i) (get_or m (from + i) 0)) (at + (i + 1)) (part m (from + (i + 1)) (count - (i + 1))) ≡ w
+    unfolding overwritten part
+    copy_on h =
+        let a : at + (i + 1) ≡ suc (at + i) = omega arith in
+        let f : from + (i + 1) ≡ suc (from + i) = omega arith in
+        let k : count - i ≡ suc (count - (i + 1)) = omega arith in
+        rw (a, f) (ap (λ (x : ℕ). sets out (at + i) (part m (from + i) x)) (sym k) ∙ e)
+
+    pub copy_end : count ≤ i → out ≡ w
+    unfolding overwritten part
+    copy_end h =
+        let k : count - i ≡ 0 = omega arith in
+        ap (λ (x : ℕ). sets out (at + i) (part m (from + i) x)) (sym k) ∙ e
 
 -- two writes in a row
 pub written_more : (xs ys out : List ℕ) (at : ℕ) → overwritten (overwritten out at xs) (at + length xs) ys ≡ overwritten out at (xs ++ ys)
@@ -93,21 +112,33 @@ written_front f out h =
 pub take_written : (f out : List ℕ) → length f ≤ length out → take (length f) (overwritten out 0 f) ≡ f
 take_written f out h = rw (written_front f out) (take-append_seam f (drop (length f) out))
 
--- words that a function gives one by one
-module _ {F : Type 0} (g : Mut F (ℕ × Unit {0}) ℕ) (f : F) (m : List ℕ) (at k : ℕ) (ws : List ℕ)
-    (word : (i y : ℕ) (q : F) → i < k → Called g f (i, tt) y q → (q ≡ f) × (y ≡ joined (get_or m (at + 2 * i) 0) (get_or m (at + 2 * i + 1) 0))) where
-  words_from : (n i : ℕ) (p : F) → p ≡ f → i + n ≡ k → length ws ≡ k → IsFromFnResultFrom g p ws i n → drop i ws ≡ words_at m (at + 2 * i) n
-  unfolding words_at
-  words_from zero i p e s l h = drop_of_length-le ws (omega arith)
-  words_from (suc n) i p e s l h =
-      let here : i < length ws = omega arith in
-      let one : at + 2 * i + 1 ≡ suc (at + 2 * i) = omega arith in
-      let two : at + 2 * (i + 1) ≡ suc (suc (at + 2 * i)) = omega arith in
-      let w : (h.0 ≡ f) × (h.1 ≡ joined (get_or m (at + 2 * i) 0) (get_or m (at + 2 * i + 1) 0)) =
-      word i h.1 h.0 (omega arith) (subst (λ (x : F). Called g x (i, tt) h.1 h.0) e h.3) in
-      drop-cons ws i 0 here
-      ∙ ap₂ ◌∷◌ (h.2.1 0 ∙ w.1 ∙ ap (λ (j : ℕ). joined (get_or m (at + 2 * i) 0) (get_or m j 0)) one)
-      (ap (λ (j : ℕ). drop j ws) (sym (add-one i)) ∙ words_from n (i + 1) h.0 w.0 (omega arith) l h.4 ∙ ap (λ (j : ℕ). words_at m j n) two)
+-- the first i of some words are those that stand in memory
+pub record Read (m ws : List ℕ) (at k i : ℕ) : Type 0 where
+  pub within : i ≤ k
+  pub long : length ws ≡ k
+  pub so_far : (j : ℕ) → j < i → get_or ws j 0 ≡ get_or (words_at m at k) j 0
 
-  pub words_made : IsFromFnResult g f ws k → ws ≡ words_at m at k
-  words_made r = let e : at + 2 * 0 ≡ at = omega arith in words_from k 0 f refl (zero-add k) r.long r.each ∙ ap (λ (j : ℕ). words_at m j k) e
+-- one more
+pub read_more : (m ws : List ℕ) (at k i w : ℕ) → Read m ws at k i → i < k
+    → w ≡ joined (get_or m (at + 2 * i) 0) (get_or m (at + 2 * i + 1) 0) → Read m (set ws i w) at k (i + 1)
+read_more m ws at k i w r h e =
+    let l : i < length ws = omega (arith, r.long) in
+    let here : get_or (set ws i w) i 0 ≡ get_or (words_at m at k) i 0 =
+    get_or-set_same ws i w 0 l ∙ e
+    ∙ sym (get_d_words k i at m h ∙ ap (λ (j : ℕ). joined (get_or m (at + 2 * i) 0) (get_or m j 0)) (sym (add-one (at + 2 * i)))) in
+    record {
+      within = omega arith;
+      long = length-set ws i w ∙ r.long;
+      so_far =
+          below_more (λ (j : ℕ). get_or (set ws i w) j 0 ≡ get_or (words_at m at k) j 0) i
+          (λ j b. get_or-set_other ws i j w 0 (λ q. lt_irrefl j (subst (λ (x : ℕ). j < x) (sym q) b)) ∙ r.so_far j b) here;
+    }
+
+-- all of them
+pub read_all : (m ws : List ℕ) (at k i : ℕ) → Read m ws at k i → k ≤ i → ws ≡ words_at m at k
+read_all m ws at k i r h =
+    ext_get_or 0 ws (words_at m at k) (r.long ∙ sym (length_words k at m)) (λ j l. r.so_far j (omega (arith, r.long)))
+
+-- none of them yet
+pub read_none : (m ws : List ℕ) (at : ℕ) → Read m ws at (length ws) 0
+read_none m ws at = record { within = omega arith; long = refl; so_far = λ j l. absurd (omega arith) }

@@ -4,6 +4,7 @@ use Rattle.bus.proofs.Only.{Only, equation, bounded}
 use Rattle.bus.proofs.bit.Reads as bit
 use Rattle.bus.proofs.weigh.Reads as weigh
 use Rattle.bus.proofs.joined.Reads as joined
+use Rattle.bus.proofs.read_words.Reads as read_words
 use Rattle.bus.proofs.words_at.Reads as words_at
 use Rattle.bus.proofs.put_word.Reads as put_word
 use Rattle.bus.proofs.put_double.Reads as put_double
@@ -34,5 +35,9 @@ pub one_copy_bytes : (κs : _) (a : _) (r s : _) (e f : _) → copy_bytes.Post �
 one_copy_bytes κs a r s e f = equation
 
 -- the words from a place on
+pub one_read_words : (κs : _) (a : _) (r s : _) (e f : _) → read_words.Post κs a r e → read_words.Post κs a s f → e.1.1.0.now ≡ f.1.1.0.now
+one_read_words κs a r s e f = equation
+
+-- .. as an array
 pub one_words_at : (n : _) (f : _) → Only (words_at.Post n f)
 one_words_at n f κs a r s e f' = equation

@@ -29,14 +29,25 @@ pub fn joined(low: u8, high: u8) -> u16
     u16::from_le_bytes([low, high])
 }
 
-// The little-endian words of a slice from a place on.
-// The place stays a parameter: it is an address of the memory, and the definition speaks of it.
-#[tactic(auto, using(crate::proofs::Bytes::words_made))]
+// The little-endian words of a slice from a place on, as many as `to` has.
+pub fn read_words(from: &[u8], at: usize, to: &mut [u16])
+    requires { at + 2 * length to.old ≤ length from.now }
+    ensures { to.new ≡ words_at from.now at (length to.old) }
+{
+    for i in 0..to.len() {
+        to[i] = joined(from[at + 2 * i], from[at + 2 * i + 1]);
+    }
+}
+
+// The same as an array.
+// The place stays a parameter, here as there: it is an address of the memory, and the definition speaks of it.
 pub fn words_at<const N: usize>(from: &[u8], at: usize) -> [u16; N]
     requires { at + 2 * N ≤ length from.now }
     ensures { result ≡ words_at from.now at N }
 {
-    std::array::from_fn(|i| joined(from[at + 2 * i], from[at + 2 * i + 1]))
+    let mut words = [0; N];
+    read_words(from, at, &mut words);
+    words
 }
 
 // A word's two bytes go to a place of a slice.
@@ -60,11 +71,14 @@ pub fn put_double(to: &mut [u8], at: usize, x: u32)
 
 // `count` bytes of a slice, from `start` on, go to a place of another.
 // Places and counts stay parameters: a descriptor gives numbers, and only here do parts of slices become the definitions' words.
-#[tactic(auto, using(crate::proofs::Bytes::copied))]
+// Not `copy_from_slice`: the archive for C would call memmove, a name that its callers need not have, and their loader would look it up on the
+// stack of the first call.
 pub fn copy_bytes(from: &[u8], start: usize, count: usize, to: &mut [u8], at: usize)
     requires from_inside { start + count ≤ length from.now }
     requires to_inside { at + count ≤ length to.old }
     ensures { to.new ≡ overwritten to.old at (part from.now start count) }
 {
-    to[at..at + count].copy_from_slice(&from[start..start + count]);
+    for i in 0..count {
+        to[at + i] = from[start + i];
+    }
 }
