@@ -46,10 +46,17 @@ impl fmt::Display for Tally {
 }
 
 // Whether two slices have the same bytes.
-// A function of its own for `==`: the edits differing_bytes_same and first_byte_passed_over hold it.
-#[tactic(auto, using(crate::proofs::Alike::slices_alike))]
+// Not `a == b`: with it no edit of the first byte or of a comparison was refused by a fact, as first_byte_passed_over and differing_bytes_same are.
 pub fn same(a: &[u8], b: &[u8]) -> bool
     ensures { result ≡ alike a.now b.now }
 {
-    a == b
+    if a.len() != b.len() {
+        return false;
+    }
+    for i in 0..a.len() {
+        if a[i] != b[i] {
+            return false;
+        }
+    }
+    true
 }
