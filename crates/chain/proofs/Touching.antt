@@ -102,6 +102,12 @@ module _ (ring : Ring) where
         within_then _ _ (λ m c. ChainIn c) _ (links n ring (slots ring - 1) _) _ m (links_within (slots ring - 1) _ m (grow_within d _ h))
         (λ c m' e l. within_done _ _ _ _ m' (closed_within c m' l))
 
+-- a slot reached from one of a ring's is one of them
+pub later_within : (ring : Ring) (k : ℕ) (i : Slot) → i.0 < slots ring → (later ring k i).0 < slots ring
+unfolding later
+later_within ring zero i h = h
+later_within ring (suc k) i h = later_within ring k (next ring i) (next_within ring i (omega arith))
+
 -- a chain that was read from slot i on: each of its slots is owned
 module _ (n : ℕ) (ring : Ring) (m : List ℕ) (i : Slot) where
   abbrev pub OwnedTo : Reach → Type 0

@@ -58,3 +58,8 @@ keep_settled w r v h =
       csr2 = so_if (λ (x : ℕ). kept 2 x ≡ x) (eqb r 2) _ _ (again_csr2 v) s.csr2;
       csr3 = so_if (λ (x : ℕ). kept 3 x ≡ x) (eqb r 3) _ _ (again_csr3 v) s.csr3;
     })
+
+-- RAP selects one of 128
+pub settled_rap : (w : Written) → settled w ≡ true → w.rap < 128
+unfolding kept
+settled_rap w h = let e : w.rap % 128 ≡ w.rap = (of_settled w h).rap in omega arith

@@ -101,7 +101,7 @@ module _ (f out out₁ : List ℕ) (n : ℕ) (append : Bool) (en : n ≡ length 
   unfolding with_fcs bytes_of
   fcs_long t = rw (t, length-append, en)
 
-  pub fcs_behind : (out₂ : List ℕ) → append ≡ true → length f ≤ 4096 → length out ≡ 4100
+  pub fcs_behind : (out₂ : List ℕ) → append ≡ true → length f ≤ 4096 → 4100 ≤ length out
       → out₂ ≡ overwritten out₁ n (bytes_of 4 (fcs_of (take n out₁))) → out₂ ≡ overwritten out 0 (with_fcs append f)
   unfolding with_fcs
   fcs_behind out₂ t l o e =

@@ -84,7 +84,7 @@ leaves_front e room out t m ws n k l h =
     rw (a, b, filled_front e.answer.frame room out ws n k l (ap (λ (x : Left Turned). x.out) h))
 
 -- a frame with its FCS has room
-fcs_room : (append : Bool) (f out : List ℕ) → length f ≤ 4096 → length out ≡ 4100 → length (with_fcs append f) ≤ length out
+fcs_room : (append : Bool) (f out : List ℕ) → length f ≤ 4096 → 4100 ≤ length out → length (with_fcs append f) ≤ length out
 unfolding with_fcs bytes_of
 fcs_room true f out h l = rw length-append (omega arith)
 fcs_room false f out h l = omega arith
@@ -112,7 +112,7 @@ module _ (m m₁ out : List ℕ) (ring : Ring) (w : Report) (says tmd3 : ℕ) (a
       ap (λ (x : Ended (Handed Turned)). leaves x out) (run_else _ _ _ m (sym eh ∙ h))
       ∙ rw (← es, ← et, eo, el) (gave_without m m₁ ring r.slots says tmd3 i back out Failed r.slot)
 
-  pub send_sent : (n : ℕ) (o : Outcome) (out₁ out₂ : List ℕ) → hands ≡ true → Sendable m ring r.slots i → length out ≡ 4100
+  pub send_sent : (n : ℕ) (o : Outcome) (out₁ out₂ : List ℕ) → hands ≡ true → Sendable m ring r.slots i → 4100 ≤ length out
       → n ≡ length (with_fcs append (buffers m ring r.slots i))
       → out₁ ≡ overwritten out 0 (with_fcs append (buffers m ring r.slots i)) → o ≡ Sent n → out₂ ≡ out₁
       → leaves (run (send ring w append i r) m) out
