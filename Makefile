@@ -36,8 +36,8 @@ checks: ready lib ## compare the archives with independent programs
 	@printf 'am79c960_entry_%s\n' arrive read reset turn write | diff - target/checks/names || { \
 	  echo 'door: the archive has other names than the five entries'; exit 1; }
 	@if $(NM) $(CARD) | grep -E ' [bBcCdD] '; then echo 'door: the archive has data of its own'; exit 1; fi
-	@if $(NM) -u $(CARD) | awk 'NF == 2 && $$2 != "memset" { print $$2; found = 1 } END { exit !found }'; then \
-	  echo 'door: the archive wants other names than memset'; exit 1; fi
+	@$(NM) -u $(CARD) | awk 'NF == 2 { print $$2 }' | sort -u | diff <(echo memset) - || { \
+	  echo 'door: the archive wants other names than memset'; exit 1; }
 	@$(CC) -std=c99 -Wall -Wextra -Wpedantic -Werror -fsyntax-only -x c include/am79c960.h
 	@if command -v c++ > /dev/null; then c++ -std=c++11 -Wall -Wextra -Wpedantic -Werror -fsyntax-only -x c++ include/am79c960.h; \
 	  else echo 'door: no C++ compiler here, so the header was not tried in C++'; fi

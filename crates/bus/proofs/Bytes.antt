@@ -119,13 +119,15 @@ pub record Read (m ws : List ℕ) (at k i : ℕ) : Type 0 where
   pub so_far : (j : ℕ) → j < i → get_or ws j 0 ≡ get_or (words_at m at k) j 0
 
 -- one more
-pub read_more : (m ws : List ℕ) (at k i w : ℕ) → Read m ws at k i → i < k
-    → w ≡ joined (get_or m (at + 2 * i) 0) (get_or m (at + 2 * i + 1) 0) → Read m (set ws i w) at k (i + 1)
-read_more m ws at k i w r h e =
+pub read_more : (m ws : List ℕ) (at k i w low high : ℕ) → Read m ws at k i → i < k → w ≡ joined (get_or m low 0) (get_or m high 0)
+    → low ≡ at + 2 * i → high ≡ at + 2 * i + 1 → Read m (set ws i w) at k (i + 1)
+read_more m ws at k i w low high r h e first second =
     let l : i < length ws = omega (arith, r.long) in
     let here : get_or (set ws i w) i 0 ≡ get_or (words_at m at k) i 0 =
-    get_or-set_same ws i w 0 l ∙ e
-    ∙ sym (get_d_words k i at m h ∙ ap (λ (j : ℕ). joined (get_or m (at + 2 * i) 0) (get_or m j 0)) (sym (add-one (at + 2 * i)))) in
+    get_or-set_same ws i w 0 l
+    ∙ e
+    ∙ ap₂ (λ (x y : ℕ). joined (get_or m x 0) (get_or m y 0)) first (second ∙ add-one (at + 2 * i))
+    ∙ sym (get_d_words k i at m h) in
     record {
       within = omega arith;
       long = length-set ws i w ∙ r.long;
